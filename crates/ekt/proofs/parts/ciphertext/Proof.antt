@@ -1,0 +1,16 @@
+use mathlib.Core.Path.{_≡_, refl, sym, ap, _∙_}
+use denote.Ref.{now}
+use Rattle.ekt.specs.Parts as Spec
+use borrow.Author.Needs.{needs}
+use Rattle.ekt.proofs.parts.ciphertext.Statement.{statement}
+use Rattle.ekt.proofs.parts.ciphertext.Tie as tie
+
+returns : tie.Need-returns
+unfolding Spec.ciphertext
+returns c =
+    c .part .ensures
+    ∙ ap (Spec.partIn (now (c .before .before .before .before .args .packet))) (c .before .ciphertext-bounds .ensures ∙ ap Spec.ciphertextBounds (c .before .before .split .ensures))
+
+pub ciphertext-spec : {M : Type 1} → statement M
+ciphertext-spec =
+    tie.close (tie.spec (λ c κs. search needs) (λ c κs. search needs) (λ c κs. search needs) returns)

@@ -1,0 +1,43 @@
+-- The parts of a packet with a tag. A part that is not there is empty, from 0 to 0.
+use Prim.Native.Nat.{ℕ}
+use mathlib.Core.List.{List}
+use Rattle.octets.specs.declared.parts.Bounds.{Bounds}
+use Rattle.octets.specs.Part.{part}
+use Rattle.ekt.specs.Splitting.{Split, refused, short, full, extension, splitting}
+
+abbrev pub between : (start end : ℕ) → Bounds
+between start end = record { start = start; end = end }
+
+abbrev pub nowhere : Bounds
+nowhere = between 0 0
+
+-- the packet in front of the tag, the ciphertext and the extension's data
+abbrev pub frontBounds : Split → Bounds
+frontBounds (refused number) = nowhere
+frontBounds (short start) = between 0 start
+frontBounds (full spi epoch start end) = between 0 start
+frontBounds (extension kind start end) = between 0 start
+
+abbrev pub ciphertextBounds : Split → Bounds
+ciphertextBounds (refused number) = nowhere
+ciphertextBounds (short start) = nowhere
+ciphertextBounds (full spi epoch start end) = between start end
+ciphertextBounds (extension kind start end) = nowhere
+
+abbrev pub dataBounds : Split → Bounds
+dataBounds (refused number) = nowhere
+dataBounds (short start) = nowhere
+dataBounds (full spi epoch start end) = nowhere
+dataBounds (extension kind start end) = between start end
+
+abbrev pub partIn : List ℕ → Bounds → List ℕ
+partIn p b = part p (b .start) (b .end)
+
+unfoldable pub front : List ℕ → List ℕ
+front p = partIn p (frontBounds (splitting p))
+
+unfoldable pub ciphertext : List ℕ → List ℕ
+ciphertext p = partIn p (ciphertextBounds (splitting p))
+
+unfoldable pub extensionData : List ℕ → List ℕ
+extensionData p = partIn p (dataBounds (splitting p))

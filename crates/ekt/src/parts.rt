@@ -1,0 +1,105 @@
+// The parts of a packet with a tag, lent from the packet itself. A part that is not there is empty.
+use crate::splitting::Tag;
+use crate::splitting::split;
+use octets::Bounds;
+ghost use mathlib.Core.Path.{_≡_};
+ghost use Rattle.ekt.specs.Splitting.{answerOf};
+ghost use Rattle.ekt.specs.Parts as Spec;
+
+const NOWHERE: Bounds = Bounds { start: 0, end: 0 };
+
+// Where the packet in front of its tag stands.
+pub fn front_bounds(tag: Tag) -> Bounds
+    ensures { λ r. ⌜ r ≡ Spec.frontBounds (answerOf tag) ⌝ }
+{
+    match tag {
+        Tag::Missing => NOWHERE,
+        Tag::Short { start } => Bounds {
+            start: 0,
+            end: start,
+        },
+        Tag::Full {
+            spi: _,
+            epoch: _,
+            start,
+            end: _,
+        } => Bounds {
+            start: 0,
+            end: start,
+        },
+        Tag::Extension {
+            kind: _,
+            start,
+            end: _,
+        } => Bounds {
+            start: 0,
+            end: start,
+        },
+    }
+}
+
+// Where the ciphertext of a Full tag stands.
+pub fn ciphertext_bounds(tag: Tag) -> Bounds
+    ensures { λ r. ⌜ r ≡ Spec.ciphertextBounds (answerOf tag) ⌝ }
+{
+    match tag {
+        Tag::Missing => NOWHERE,
+        Tag::Short { start: _ } => NOWHERE,
+        Tag::Full {
+            spi: _,
+            epoch: _,
+            start,
+            end,
+        } => Bounds { start, end },
+        Tag::Extension {
+            kind: _,
+            start: _,
+            end: _,
+        } => NOWHERE,
+    }
+}
+
+// Where the data of an Extension tag stands.
+pub fn data_bounds(tag: Tag) -> Bounds
+    ensures { λ r. ⌜ r ≡ Spec.dataBounds (answerOf tag) ⌝ }
+{
+    match tag {
+        Tag::Missing => NOWHERE,
+        Tag::Short { start: _ } => NOWHERE,
+        Tag::Full {
+            spi: _,
+            epoch: _,
+            start: _,
+            end: _,
+        } => NOWHERE,
+        Tag::Extension {
+            kind: _,
+            start,
+            end,
+        } => Bounds { start, end },
+    }
+}
+
+// The packet in front of its tag.
+pub fn front(packet: &[u8]) -> &[u8]
+    ensures { λ r. ⌜ now r ≡ Spec.front (now (packet .entry)) ⌝ }
+{
+    let b = front_bounds(split(packet));
+    octets::part(packet, b.start, b.end)
+}
+
+// The ciphertext of a Full tag.
+pub fn ciphertext(packet: &[u8]) -> &[u8]
+    ensures { λ r. ⌜ now r ≡ Spec.ciphertext (now (packet .entry)) ⌝ }
+{
+    let b = ciphertext_bounds(split(packet));
+    octets::part(packet, b.start, b.end)
+}
+
+// The data of an Extension tag.
+pub fn extension_data(packet: &[u8]) -> &[u8]
+    ensures { λ r. ⌜ now r ≡ Spec.extensionData (now (packet .entry)) ⌝ }
+{
+    let b = data_bounds(split(packet));
+    octets::part(packet, b.start, b.end)
+}

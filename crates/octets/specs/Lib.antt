@@ -1,0 +1,4 @@
+pub mod Number
+pub mod Range
+pub mod Part
+pub mod Write
