@@ -1,6 +1,6 @@
 -- A tag that is built behind any front splits into exactly what it was built from.
 use Prim.Native.Nat.{ℕ, _+_, _-_, _≤_, _<_}
-use mathlib.Core.Path.{_≡_, refl, sym, ap, ap₂, _∙_}
+use mathlib.Core.Path.{_≡_, refl, sym, ap, _∙_}
 use mathlib.Core.List.{List, [], _∷_, _++_, append-assoc}
 use native.Mathlib.Omega.{arith}
 use lib.ListN.{length, length-append}
@@ -8,7 +8,6 @@ use lib.Seq.{getD-at}
 use borrow.Author.Tests.{ne-eqb}
 use Rattle.octets.specs.Number.{octetAt, number16At, octets16}
 use Rattle.octets.specs.Part.{part}
-use Rattle.octets.specs.Range.{within}
 use Rattle.octets.proofs.NumberLaws.{number16-behind}
 use Rattle.octets.proofs.PartLaws.{part-behind}
 use Rattle.octets.proofs.RangeLaws.{inside}
@@ -18,7 +17,7 @@ use Rattle.ekt.specs.Splitting
 use Rattle.ekt.specs.Splitting.{Split, formOf, tagLength, lengthFits, splitFull, splitExtension, splitForm, splitting}
 use Rattle.ekt.specs.Parts.{frontBounds, ciphertextBounds, dataBounds, partIn, front, ciphertext, extensionData}
 use Rattle.ekt.specs.declared.splitting.Form.{Form}
-use Rattle.ekt.proofs.LengthLaws.{LengthFits, does-fit, length-there}
+use Rattle.ekt.proofs.LengthLaws.{does-fit, length-there}
 use Rattle.ekt.proofs.SplitLaws.{by-last}
 
 -- what is said of a packet that splits as s

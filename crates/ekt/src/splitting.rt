@@ -1,6 +1,5 @@
 // Splitting a packet from its EKT tag, read from the last octet backwards.
 ghost use mathlib.Core.Path.{_≡_};
-ghost use mathlib.Core.Bool.{true};
 ghost use Rattle.ekt.specs.Splitting as Spec;
 
 // The longest ciphertext and extension data, and what stands behind them in a tag:

@@ -1,15 +1,12 @@
 -- Laws of writing at a place, piece behind piece.
 use Prim.Native.Nat.{ℕ, _+_, _≤_, _<_}
-use mathlib.Core.Path.{_≡_, refl, sym, ap, ap₂, _∙_}
-use mathlib.Core.Bool.{Bool, true, false, cond}
-use mathlib.Core.List.{List, [], _∷_, _++_, append-assoc}
+use mathlib.Core.Path.{_≡_, refl, sym, ap, _∙_}
+use mathlib.Core.List.{List, [], _++_}
 use native.Mathlib.Omega.{arith}
-use native.Mathlib.Nat.{add-assoc}
 use borrow.Author.Tests.{le-leb, lt-leb}
-use lib.Dec.{leb}
-use lib.ListN.{length, take, drop, length-append, length-take, length-drop}
-use lib.Seq.{take-append-seam, take-at, drop-append-add, drop-drop}
-use Rattle.octets.specs.Write.{over, fits, put, putEnd}
+use lib.ListN.{length, drop, length-append, length-take, length-drop}
+use lib.Seq.{take-append-seam, drop-append-add, drop-drop}
+use Rattle.octets.specs.Write.{over, put, putEnd}
 
 -- ---- one piece
 

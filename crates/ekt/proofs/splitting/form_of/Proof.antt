@@ -1,5 +1,4 @@
 use native.Mathlib.Omega.{arith}
-use mathlib.Core.Path.{_≡_, refl, sym, ap, ap₂, _∙_}
 use Rattle.ekt.specs.Splitting as Spec
 use Rattle.octets.proofs.RangeLaws.{inside}
 use Rattle.octets.specs.Range.{within}

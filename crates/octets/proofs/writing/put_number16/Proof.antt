@@ -1,10 +1,7 @@
 use borrow.Author.Needs.{needs}
-use Prim.Native.Nat.{ℕ, _+_, _≤_, _<_}
-use mathlib.Core.Path.{_≡_, refl, sym, ap, _∙_}
+use mathlib.Core.Path.{_∙_}
 use native.Mathlib.Omega.{arith}
-use lib.ListN.{length}
 use denote.Ref.{now}
-use mathlib.Core.List.{[], _∷_}
 use native.Mathlib.Numerals.{add-one}
 use lib.Seq.{sets-eq}
 use Rattle.octets.specs.Number.{octets16}

@@ -1,0 +1,29 @@
+use borrow.Author.Needs.{needs}
+use mathlib.Core.Path.{_≡_}
+use Prim.Native.Nat.{_≤_, _-_}
+use lib.ListN.{length}
+use Rattle.vectors.proofs.print.octet_row.Statement.{statement}
+use Rattle.vectors.proofs.print.octet_row.Tie as tie
+
+-- the place is within the octets, and the loop ends behind the last
+abbrev Inv-loop : tie.InvT-loop
+Inv-loop s i₀ t3 i-end i = (i ≤ length s) × (i-end ≡ length s)
+
+abbrev μ-loop : tie.MeasureT-loop
+μ-loop s i₀ t3 i-end i = length s - i
+
+pub octet-row-spec : {M : Type 1} → statement M
+octet-row-spec =
+    tie.close
+    (tie.spec
+    Inv-loop
+    μ-loop
+    (λ c. search needs)
+    (λ c. search needs)
+    (λ c κs. search needs)
+    (λ c. search needs)
+    (λ c κs. search needs)
+    (λ c. search needs)
+    (λ c. search needs)
+    (λ c. search needs)
+    (λ c. search needs))
