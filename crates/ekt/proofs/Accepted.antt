@@ -19,19 +19,8 @@ use Rattle.ekt.specs.Grammar
 use Rattle.ekt.specs.Grammar.{IsTag, shortTag, fullTag, extensionTag}
 use Rattle.ekt.specs.Splitting.{Split, refused, short, full, extension, formOf, tagLength, lengthFits, splitFull, splitExtension, splitForm, splitting}
 use Rattle.ekt.specs.declared.splitting.Form.{Form}
+use Rattle.ekt.specs.Claims.{Ends, Says}
 use Rattle.ekt.proofs.LengthLaws.{LengthFits, fits-says, length-there}
-
--- the packet is the front before a place and this tag
-pub record Ends (p : List ℕ) (start : ℕ) (tag : List ℕ) : Type 0 where
-  pub whole : part p 0 start ++ tag ≡ p
-  pub is-tag : IsTag tag
-
--- what an answer says of its packet
-abbrev pub Says : List ℕ → Split → Type 0
-Says p (refused number) = number ≡ 18
-Says p (short start) = Ends p start shortTag
-Says p (full spi epoch start end) = Ends p start (fullTag (part p start end) spi epoch)
-Says p (extension kind start end) = Ends p start (extensionTag kind (part p start end))
 
 -- which octet a form comes from
 abbrev FormSays : ℕ → Form → Type 0

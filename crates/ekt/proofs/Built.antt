@@ -17,15 +17,9 @@ use Rattle.ekt.specs.Splitting
 use Rattle.ekt.specs.Splitting.{Split, formOf, tagLength, lengthFits, splitFull, splitExtension, splitForm, splitting}
 use Rattle.ekt.specs.Parts.{frontBounds, ciphertextBounds, dataBounds, partIn, front, ciphertext, extensionData}
 use Rattle.ekt.specs.declared.splitting.Form.{Form}
+use Rattle.ekt.specs.Claims.{Splits}
 use Rattle.ekt.proofs.LengthLaws.{does-fit, length-there}
 use Rattle.ekt.proofs.SplitLaws.{by-last}
-
--- what is said of a packet that splits as s
-pub record Splits (p : List ℕ) (s : Split) (f c d : List ℕ) : Type 0 where
-  pub answer : splitting p ≡ s
-  pub in-front : front p ≡ f
-  pub encrypted : ciphertext p ≡ c
-  pub extended : extensionData p ≡ d
 
 -- it is enough to know the answer and the parts between its bounds
 splits : (p : List ℕ) (s : Split) (f c d : List ℕ) → splitting p ≡ s

@@ -2,3 +2,4 @@ pub mod Limits
 pub mod Grammar
 pub mod Splitting
 pub mod Parts
+pub mod Claims

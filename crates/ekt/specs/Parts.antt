@@ -16,19 +16,19 @@ abbrev pub frontBounds : Split → Bounds
 frontBounds (refused number) = nowhere
 frontBounds (short start) = between 0 start
 frontBounds (full spi epoch start end) = between 0 start
-frontBounds (extension kind start end) = between 0 start
+frontBounds (extension messageType start end) = between 0 start
 
 abbrev pub ciphertextBounds : Split → Bounds
 ciphertextBounds (refused number) = nowhere
 ciphertextBounds (short start) = nowhere
 ciphertextBounds (full spi epoch start end) = between start end
-ciphertextBounds (extension kind start end) = nowhere
+ciphertextBounds (extension messageType start end) = nowhere
 
 abbrev pub dataBounds : Split → Bounds
 dataBounds (refused number) = nowhere
 dataBounds (short start) = nowhere
 dataBounds (full spi epoch start end) = nowhere
-dataBounds (extension kind start end) = between start end
+dataBounds (extension messageType start end) = between start end
 
 abbrev pub partIn : List ℕ → Bounds → List ℕ
 partIn p b = part p (b .start) (b .end)

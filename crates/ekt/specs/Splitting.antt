@@ -17,14 +17,14 @@ pub data Split : Type 0 where
   refused : (number : ℕ) → Split
   short : (start : ℕ) → Split
   full : (spi epoch start end : ℕ) → Split
-  extension : (kind start end : ℕ) → Split
+  extension : (messageType start end : ℕ) → Split
 
 -- the type octet: 0 Short, 2 Full, 3 to 255 Extension; 1 is not available
 unfoldable pub formOf : ℕ → Form
-formOf kind =
-    cond (eqb kind 0) Short
-    (cond (eqb kind 2) Full
-    (cond (within 3 255 kind) Extension
+formOf messageType =
+    cond (eqb messageType 0) Short
+    (cond (eqb messageType 2) Full
+    (cond (within 3 255 messageType) Extension
     Unavailable))
 
 -- the length: the two octets before the type, 0 where the packet has not so many
@@ -38,20 +38,20 @@ lengthFits p trailer most = within (trailer + 1) (trailer + most) (tagLength p) 
 unfoldable pub splitFull : List ℕ → Split
 splitFull p =
     cond (lengthFits p fullTrailer ciphertextLimit)
-    (full (number16At p (length p - 7)) (number16At p (length p - 5)) (length p - tagLength p) (length p - fullTrailer))
+    (full (number16At p (length p - fullTrailer)) (number16At p (length p - 5)) (length p - tagLength p) (length p - fullTrailer))
     (refused 18)
 
 unfoldable pub splitExtension : List ℕ → ℕ → Split
-splitExtension p kind =
+splitExtension p messageType =
     cond (lengthFits p extensionTrailer dataLimit)
-    (extension kind (length p - tagLength p) (length p - extensionTrailer))
+    (extension messageType (length p - tagLength p) (length p - extensionTrailer))
     (refused 18)
 
 abbrev pub splitForm : List ℕ → ℕ → Form → Split
-splitForm p kind Short = short (length p - 1)
-splitForm p kind Full = splitFull p
-splitForm p kind Extension = splitExtension p kind
-splitForm p kind Unavailable = refused 18
+splitForm p messageType Short = short (length p - 1)
+splitForm p messageType Full = splitFull p
+splitForm p messageType Extension = splitExtension p messageType
+splitForm p messageType Unavailable = refused 18
 
 unfoldable pub splitting : List ℕ → Split
 splitting p =
@@ -60,7 +60,7 @@ splitting p =
 
 -- the number and the values that each case of the enum stands for
 abbrev pub answerOf : Tag → Split
-answerOf Tag.Missing = refused 18
+answerOf Tag.NoTag = refused 18
 answerOf (Tag.Short start) = short start
 answerOf (Tag.Full spi epoch start end) = full spi epoch start end
-answerOf (Tag.Extension kind start end) = extension kind start end
+answerOf (Tag.Extension messageType start end) = extension messageType start end

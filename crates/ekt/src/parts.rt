@@ -13,7 +13,7 @@ pub fn front_bounds(tag: Tag) -> Bounds
     ensures { λ r. ⌜ r ≡ Spec.frontBounds (answerOf tag) ⌝ }
 {
     match tag {
-        Tag::Missing => NOWHERE,
+        Tag::NoTag => NOWHERE,
         Tag::Short { start } => Bounds {
             start: 0,
             end: start,
@@ -28,7 +28,7 @@ pub fn front_bounds(tag: Tag) -> Bounds
             end: start,
         },
         Tag::Extension {
-            kind: _,
+            message_type: _,
             start,
             end: _,
         } => Bounds {
@@ -43,7 +43,7 @@ pub fn ciphertext_bounds(tag: Tag) -> Bounds
     ensures { λ r. ⌜ r ≡ Spec.ciphertextBounds (answerOf tag) ⌝ }
 {
     match tag {
-        Tag::Missing => NOWHERE,
+        Tag::NoTag => NOWHERE,
         Tag::Short { start: _ } => NOWHERE,
         Tag::Full {
             spi: _,
@@ -52,7 +52,7 @@ pub fn ciphertext_bounds(tag: Tag) -> Bounds
             end,
         } => Bounds { start, end },
         Tag::Extension {
-            kind: _,
+            message_type: _,
             start: _,
             end: _,
         } => NOWHERE,
@@ -64,7 +64,7 @@ pub fn data_bounds(tag: Tag) -> Bounds
     ensures { λ r. ⌜ r ≡ Spec.dataBounds (answerOf tag) ⌝ }
 {
     match tag {
-        Tag::Missing => NOWHERE,
+        Tag::NoTag => NOWHERE,
         Tag::Short { start: _ } => NOWHERE,
         Tag::Full {
             spi: _,
@@ -73,7 +73,7 @@ pub fn data_bounds(tag: Tag) -> Bounds
             end: _,
         } => NOWHERE,
         Tag::Extension {
-            kind: _,
+            message_type: _,
             start,
             end,
         } => Bounds { start, end },

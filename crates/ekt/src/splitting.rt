@@ -2,14 +2,16 @@
 ghost use mathlib.Core.Path.{_≡_};
 ghost use Rattle.ekt.specs.Splitting as Spec;
 
-// The longest ciphertext and extension data, and what stands behind them in a tag:
-// SPI, epoch, length and type; or length and type.
+// The longest ciphertext.
 const CIPHERTEXT_LIMIT: u16 = 251;
 
+// The longest extension data.
 const DATA_LIMIT: u16 = 1024;
 
+// What stands behind the ciphertext: SPI, epoch, length, type.
 const FULL_TRAILER: u16 = 7;
 
+// What stands behind the extension's data: length, type.
 const EXTENSION_TRAILER: u16 = 3;
 
 // What the last octet says.
@@ -24,8 +26,8 @@ enum Form {
 // A tag, with its bounds in the packet: the front is what stands before start, and the
 // ciphertext or the extension's data goes from start to end.
 pub enum Tag {
-    // Refusal 18: no tag ends this packet.
-    Missing,
+    // Refusal 18: no tag of the grammar ends this packet.
+    NoTag,
     Short {
         start: usize,
     },
@@ -36,17 +38,17 @@ pub enum Tag {
         end: usize,
     },
     Extension {
-        kind: u8,
+        message_type: u8,
         start: usize,
         end: usize,
     },
 }
 
 // The form that a type octet stands for.
-fn form_of(kind: u8) -> Form
-    ensures { λ r. ⌜ r ≡ Spec.formOf kind ⌝ }
+fn form_of(message_type: u8) -> Form
+    ensures { λ r. ⌜ r ≡ Spec.formOf «message_type» ⌝ }
 {
-    match kind {
+    match message_type {
         0 => Form::Short,
         1 => Form::Unavailable,
         2 => Form::Full,
@@ -84,36 +86,37 @@ fn split_full(packet: &[u8]) -> Tag
             end,
         }
     } else {
-        Tag::Missing
+        Tag::NoTag
     }
 }
 
-fn split_extension(packet: &[u8], kind: u8) -> Tag
-    ensures { λ r. ⌜ Spec.answerOf r ≡ Spec.splitExtension (now (packet .entry)) kind ⌝ }
+fn split_extension(packet: &[u8], message_type: u8) -> Tag
+    ensures { λ r. ⌜ Spec.answerOf r ≡ Spec.splitExtension (now (packet .entry)) «message_type» ⌝ }
 {
     if length_fits(packet, EXTENSION_TRAILER, DATA_LIMIT) {
         Tag::Extension {
-            kind,
+            message_type,
             start: packet.len() - tag_length(packet) as usize,
             end: packet.len() - EXTENSION_TRAILER as usize,
         }
     } else {
-        Tag::Missing
+        Tag::NoTag
     }
 }
 
+// The tag that ends a packet, or refusal 18.
 pub fn split(packet: &[u8]) -> Tag
     ensures { λ r. ⌜ Spec.answerOf r ≡ Spec.splitting (now (packet .entry)) ⌝ }
 {
     if packet.len() == 0 {
-        return Tag::Missing;
+        return Tag::NoTag;
     }
     let last = packet.len() - 1;
-    let kind = octets::octet(packet, last);
-    match form_of(kind) {
+    let message_type = octets::octet(packet, last);
+    match form_of(message_type) {
         Form::Short => Tag::Short { start: last },
         Form::Full => split_full(packet),
-        Form::Extension => split_extension(packet, kind),
-        Form::Unavailable => Tag::Missing,
+        Form::Extension => split_extension(packet, message_type),
+        Form::Unavailable => Tag::NoTag,
     }
 }

@@ -7,6 +7,7 @@ mod writing;
 pub use parts::Bounds;
 pub use parts::part;
 pub use parts::same;
+pub use reading::holds_octets;
 pub use reading::number16;
 pub use reading::number32;
 pub use reading::octet;

@@ -21,6 +21,7 @@ pub fn part(s: &[u8], from: usize, to: usize) -> &[u8]
     if from <= s.len() { &s[from..] } else { &s[..0] }
 }
 
+// Whether two slices hold the same octets.
 pub fn same(a: &[u8], b: &[u8]) -> bool
     ensures { λ r. ⌜ r ≡ Spec.same (now (a .entry)) (now (b .entry)) ⌝ }
 {

@@ -1,13 +1,20 @@
 // Octets and big-endian numbers at a place. Octets past the end are 0.
 ghost use mathlib.Core.Path.{_≡_};
 ghost use Prim.Native.Nat.{_+_, _*_};
-ghost use Rattle.octets.specs.Number.{octetAt, number16At, number32At};
+ghost use Rattle.octets.specs.Number.{octetAt, number16At, number32At, Octets};
 
 // The octet at a place.
 pub fn octet(s: &[u8], at: usize) -> u8
     ensures { λ r. ⌜ r ≡ octetAt (now (s .entry)) at ⌝ }
 {
     if at < s.len() { s[at] } else { 0 }
+}
+
+// Every slice holds octets, whatever it was lent for: the premise of theorems about octet lists.
+pub fn holds_octets(s: &[u8])
+    ensures { λ r. ⌜ Octets (now (s .entry)) ⌝ }
+{
+    octet(s, 0);
 }
 
 fn join16(high: u8, low: u8) -> u16

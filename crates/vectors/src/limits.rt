@@ -44,12 +44,12 @@ fn extension(length: u16, size: usize) {
 }
 
 // The first octets of a packet, and its last: what stands before the length, the length, the type.
-fn finish(out: &mut [u8], size: usize, before: &[u8], length: u16, kind: u8) {
+fn finish(out: &mut [u8], size: usize, before: &[u8], length: u16, message_type: u8) {
     octets::put_octets(out, 0, b"\xF1\xF2");
     let at = back(back(size, 3), before.len());
     let at = octets::put_octets(out, at, before);
     let at = octets::put_number16(out, at, length);
-    octets::put_octet(out, at, kind);
+    octets::put_octet(out, at, message_type);
 }
 
 fn back(from: usize, count: usize) -> usize {

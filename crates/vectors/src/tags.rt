@@ -6,7 +6,7 @@ use ekt::Tag;
 pub fn split(packet: &[u8]) {
     print::text(b": ");
     match ekt::split(packet) {
-        Tag::Missing => print::refusal(octets::refusal::NO_TAG),
+        Tag::NoTag => print::refusal(octets::refusal::NO_TAG),
         Tag::Short { start: _ } => short(packet),
         Tag::Full {
             spi,
@@ -15,10 +15,10 @@ pub fn split(packet: &[u8]) {
             end: _,
         } => full(packet, spi, epoch),
         Tag::Extension {
-            kind,
+            message_type,
             start: _,
             end: _,
-        } => extension(packet, kind),
+        } => extension(packet, message_type),
     }
     print::text(b"\n");
 }
@@ -38,9 +38,9 @@ fn full(packet: &[u8], spi: u16, epoch: u16) {
     print::number16(epoch);
 }
 
-fn extension(packet: &[u8], kind: u8) {
+fn extension(packet: &[u8], message_type: u8) {
     print::text(b"Extension ");
-    print::decimal(kind as u64);
+    print::decimal(message_type as u64);
     print::part(b"front", ekt::front(packet));
     print::part(b"data", ekt::extension_data(packet));
 }

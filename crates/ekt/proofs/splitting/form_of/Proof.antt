@@ -21,7 +21,7 @@ returns-3 c = rw (c .match .keys3)
 returns-4 : tie.Need-returns-4
 unfolding Spec.formOf
 returns-4 c =
-    let b = c .before .args .kind in
+    let b = c .before .args .message-type in
     simp (ne-eqb b 0 (omega arith), ne-eqb b 2 (omega arith), inside 3 255 b (omega arith) (omega arith))
 
 pub form-of-spec : {M : Type 1} → statement M
