@@ -8,6 +8,7 @@ use lib.Seq.{getD-at}
 use borrow.Author.Tests.{ne-eqb}
 use Rattle.octets.specs.Number.{octetAt, number16At, octets16}
 use Rattle.octets.specs.Part.{part}
+use Rattle.octets.specs.Bounds.{partIn}
 use Rattle.octets.proofs.NumberLaws.{number16-behind}
 use Rattle.octets.proofs.PartLaws.{part-behind}
 use Rattle.octets.proofs.RangeLaws.{inside}
@@ -15,7 +16,7 @@ use Rattle.ekt.specs.Limits.{ciphertextLimit, dataLimit, fullTrailer, ex
 use Rattle.ekt.specs.Grammar.{shortTag, fullTag, extensionTag}
 use Rattle.ekt.specs.Splitting
 use Rattle.ekt.specs.Splitting.{Split, formOf, tagLength, lengthFits, splitFull, splitExtension, splitForm, splitting}
-use Rattle.ekt.specs.Parts.{frontBounds, ciphertextBounds, dataBounds, partIn, front, ciphertext, extensionData}
+use Rattle.ekt.specs.Parts.{frontBounds, ciphertextBounds, dataBounds, front, ciphertext, extensionData}
 use Rattle.ekt.specs.declared.splitting.Form.{Form}
 use Rattle.ekt.specs.Claims.{Splits}
 use Rattle.ekt.proofs.LengthLaws.{does-fit, length-there}

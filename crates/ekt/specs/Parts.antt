@@ -2,14 +2,8 @@
 use Prim.Native.Nat.{ℕ}
 use mathlib.Core.List.{List}
 use Rattle.octets.specs.declared.parts.Bounds.{Bounds}
-use Rattle.octets.specs.Part.{part}
+use Rattle.octets.specs.Bounds.{between, nowhere, partIn}
 use Rattle.ekt.specs.Splitting.{Split, refused, short, full, extension, splitting}
-
-abbrev pub between : (start end : ℕ) → Bounds
-between start end = record { start = start; end = end }
-
-abbrev pub nowhere : Bounds
-nowhere = between 0 0
 
 -- the packet in front of the tag, the ciphertext and the extension's data
 abbrev pub frontBounds : Split → Bounds
@@ -29,9 +23,6 @@ dataBounds (refused number) = nowhere
 dataBounds (short start) = nowhere
 dataBounds (full spi epoch start end) = nowhere
 dataBounds (extension messageType start end) = between start end
-
-abbrev pub partIn : List ℕ → Bounds → List ℕ
-partIn p b = part p (b .start) (b .end)
 
 unfoldable pub front : List ℕ → List ℕ
 front p = partIn p (frontBounds (splitting p))

@@ -2,11 +2,10 @@
 use crate::splitting::Tag;
 use crate::splitting::split;
 use octets::Bounds;
+use octets::NOWHERE;
 ghost use mathlib.Core.Path.{_≡_};
 ghost use Rattle.ekt.specs.Splitting.{answerOf};
 ghost use Rattle.ekt.specs.Parts as Spec;
-
-const NOWHERE: Bounds = Bounds { start: 0, end: 0 };
 
 // Where the packet in front of its tag stands.
 pub fn front_bounds(tag: Tag) -> Bounds
@@ -84,22 +83,19 @@ pub fn data_bounds(tag: Tag) -> Bounds
 pub fn front(packet: &[u8]) -> &[u8]
     ensures { λ r. ⌜ now r ≡ Spec.front (now (packet .entry)) ⌝ }
 {
-    let b = front_bounds(split(packet));
-    octets::part(packet, b.start, b.end)
+    octets::part_in(packet, front_bounds(split(packet)))
 }
 
 // The ciphertext of a Full tag.
 pub fn ciphertext(packet: &[u8]) -> &[u8]
     ensures { λ r. ⌜ now r ≡ Spec.ciphertext (now (packet .entry)) ⌝ }
 {
-    let b = ciphertext_bounds(split(packet));
-    octets::part(packet, b.start, b.end)
+    octets::part_in(packet, ciphertext_bounds(split(packet)))
 }
 
 // The data of an Extension tag.
 pub fn extension_data(packet: &[u8]) -> &[u8]
     ensures { λ r. ⌜ now r ≡ Spec.extensionData (now (packet .entry)) ⌝ }
 {
-    let b = data_bounds(split(packet));
-    octets::part(packet, b.start, b.end)
+    octets::part_in(packet, data_bounds(split(packet)))
 }

@@ -1,4 +1,5 @@
 pub mod Number
 pub mod Range
 pub mod Part
+pub mod Bounds
 pub mod Write

@@ -5,7 +5,9 @@ pub mod refusal;
 mod writing;
 
 pub use parts::Bounds;
+pub use parts::NOWHERE;
 pub use parts::part;
+pub use parts::part_in;
 pub use parts::same;
 pub use reading::holds_octets;
 pub use reading::number16;
