@@ -13,6 +13,7 @@ pub use reading::holds_octets;
 pub use reading::number16;
 pub use reading::number32;
 pub use reading::octet;
+pub use reading::within;
 pub use writing::put_number16;
 pub use writing::put_octet;
 pub use writing::put_octets;

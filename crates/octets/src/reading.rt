@@ -1,6 +1,7 @@
 // Octets and big-endian numbers at a place. Octets past the end are 0.
 ghost use mathlib.Core.Path.{_≡_};
 ghost use Prim.Native.Nat.{_+_, _*_};
+ghost use Rattle.octets.specs.Range as Range;
 ghost use Rattle.octets.specs.Number.{octetAt, number16At, number32At, Octets};
 
 // The octet at a place.
@@ -51,4 +52,11 @@ pub fn number32(s: &[u8], at: usize) -> u32
     } else {
         0
     }
+}
+
+// Whether a number is in a range, both ends counted.
+pub fn within(least: usize, most: usize, n: usize) -> bool
+    ensures { λ r. ⌜ r ≡ Range.within least most n ⌝ }
+{
+    (least <= n) & (n <= most)
 }

@@ -1,0 +1,13 @@
+pub mod FrameChoice
+pub mod VerdictLaws
+pub mod KeyFields
+pub mod Pieces
+pub mod ProfileLaws
+pub mod InPart
+pub mod FrameSays
+pub mod WalkSays
+pub mod Encoded
+pub mod Reached
+pub mod ReadSays
+pub mod WriteBack
+pub mod VersionBack

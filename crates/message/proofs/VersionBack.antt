@@ -1,0 +1,32 @@
+-- Type 2 takes every lent octet: it is written back to them where they are four with length 1, and only then.
+use Prim.Native.Nat.{ℕ}
+use mathlib.Core.Path.{_≡_, sym, ap, _∙_}
+use mathlib.Core.List.{List, [], _∷_}
+use native.Mathlib.Omega.{arith}
+use lib.ListN.{length, take}
+use lib.Seq.{take-length}
+use Rattle.octets.specs.Number.{number16At, Octets}
+use Rattle.octets.proofs.NumberLaws.{part-octet}
+use Rattle.message.specs.Limits.{header}
+use Rattle.message.specs.Message.{unsupportedVersion, encode}
+use Rattle.message.specs.Read.{accepted, reading}
+use Rattle.message.specs.declared.bodies.Fields.the-variants.{UnsupportedVersion}
+use Rattle.message.proofs.FrameSays.{Version}
+use Rattle.message.proofs.Encoded.{encoded}
+use Rattle.message.proofs.ReadSays.{reading-says}
+
+module _ (s : List ℕ) (v taken : ℕ) (o : Octets s) (e : reading s ≡ accepted (UnsupportedVersion v) taken) where
+  says : Version s v × (taken ≡ length s)
+  says = rw e at (reading-says s o)
+
+  pub version-writes-back : length s ≡ 4 → number16At s 1 ≡ 1 → encode (unsupportedVersion v) ≡ take taken s
+  version-writes-back l told =
+      encoded s 1 (omega arith) o told (unsupportedVersion v) (says .0 .type)
+      (ap (λ (x : ℕ). x ∷ []) (sym (says .0 .read)) ∙ part-octet s header (omega arith))
+      ∙ ap (λ (n : ℕ). take n s) (sym (says .1 ∙ l))
+
+  pub version-only-then : encode (unsupportedVersion v) ≡ take taken s → (length s ≡ 4) × (number16At s 1 ≡ 1)
+  unfolding encode number16At
+  version-only-then same =
+      let q : s ≡ encode (unsupportedVersion v) = sym (same ∙ ap (λ (n : ℕ). take n s) (says .1) ∙ take-length s) in
+      (ap length q, ap (λ (x : List ℕ). number16At x 1) q)

@@ -1,0 +1,38 @@
+use borrow.Author.Needs.{needs}
+use Rattle.message.proofs.places.places_of.Statement.{statement}
+use Rattle.message.proofs.places.places_of.Tie as tie
+
+-- /work/main/target/rlib/octets.rlib/interface/lang/src/parts.rt:2:30
+-- /work/main/target/rlib/octets.rlib/interface/lang/src/parts.rt:2:30
+-- /work/main/target/rlib/octets.rlib/interface/lang/src/parts.rt:2:30
+-- /work/main/target/rlib/octets.rlib/interface/lang/src/parts.rt:2:30
+returns : tie.Need-returns
+returns c = rw (c .enum-told .given .1)
+
+returns-2 : tie.Need-returns-2
+returns-2 c = rw (c .enum-told2 .given .1)
+
+returns-3 : tie.Need-returns-3
+returns-3 c = rw (c .enum-told3 .given .1)
+
+returns-4 : tie.Need-returns-4
+returns-4 c = rw (c .enum-told4 .given .1)
+
+returns-5 : tie.Need-returns-5
+returns-5 c = rw (c .before .before .read .given .1, ← (c .field-places .ensures))
+
+pub places-of-spec : {M : Type 1} → statement M
+places-of-spec =
+    tie.close
+    (tie.spec
+    (λ c. search needs)
+    (λ c. search needs)
+    (λ c. search needs)
+    (λ c. search needs)
+    (λ c. search needs)
+    (λ c κs. search needs)
+    returns
+    returns-2
+    returns-3
+    returns-4
+    returns-5)

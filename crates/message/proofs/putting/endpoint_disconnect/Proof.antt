@@ -1,0 +1,32 @@
+use native.Mathlib.Omega.{arith}
+use mathlib.Core.Path.{_≡_, refl}
+use denote.Ref.{now}
+use Rattle.message.specs.Write as Spec
+use Rattle.message.specs.Message as M
+use lib.ListN.{length}
+use Rattle.message.specs.Limits.{width}
+use Rattle.message.proofs.VerdictLaws.{encode-length}
+use Rattle.octets.proofs.WriteLaws.{wrote-more}
+use Rattle.message.proofs.Pieces.{whole}
+use borrow.Author.Tests.{eqb-true}
+use borrow.Author.Needs.{needs}
+use Rattle.message.proofs.putting.endpoint_disconnect.Statement.{statement}
+use Rattle.message.proofs.putting.endpoint_disconnect.Tie as tie
+
+put-header-requires : tie.Need-put-header-requires
+put-header-requires c κs =
+    let a = c .before .before .before .args in
+    omega (arith, c .before .before .before .pre .there, encode-length (M.endpointDisconnect (now (a .id))))
+
+returns : tie.Need-returns
+returns c =
+    let a = c .before .before .before .before .before .before .before .before .before .before .args in
+    let m = M.endpointDisconnect (now (a .id)) in
+    let i : length (now (a .id)) ≡ width = eqb-true _ _ (c .before .before .before .before .before .before .before .before .before .before .pre .identifier) in
+    let w = wrote-more (now (a .id)) (c .before .before .before .before .before .before .put-header .ensures) (omega (arith, c .before .before .before .before .before .before .before .before .before .before .pre .there, encode-length (m))) (c .before .before .put-octets .ensures .0) (c .before .before .put-octets .ensures .1) in
+    whole m width w i refl
+
+pub endpoint-disconnect-spec : {M : Type 1} → statement M
+endpoint-disconnect-spec =
+    tie.close
+    (tie.spec (λ c. search needs) put-header-requires (λ c κs. search needs) (λ c. search needs) returns)

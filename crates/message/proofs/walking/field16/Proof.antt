@@ -1,0 +1,18 @@
+use mathlib.Core.Path.{ap, _∙_}
+use denote.Ref.{now}
+use lib.ListN.{length}
+use Prim.Native.Nat.{ℕ, _+_}
+use lib.Dec.{leb}
+use Rattle.message.specs.Walk as Spec
+use borrow.Author.Needs.{needs}
+use Rattle.message.proofs.walking.field16.Statement.{statement}
+use Rattle.message.proofs.walking.field16.Tie as tie
+
+returns : tie.Need-returns
+unfolding Spec.field16
+returns c =
+    let a = c .before .before .before .args in
+    c .past .ensures ∙ ap (λ (k : ℕ). Spec.past (length (now (a .body))) (leb 1 k) (2 + k) (a .w)) (c .before .number16 .ensures)
+
+pub field16-spec : {M : Type 1} → statement M
+field16-spec = tie.close (tie.spec (λ c κs. search needs) (λ c. search needs) (λ c. search needs) (λ c κs. search needs) returns)

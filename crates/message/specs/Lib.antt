@@ -1,0 +1,10 @@
+pub mod Limits
+pub mod Message
+pub mod Frame
+pub mod Walk
+pub mod Body
+pub mod Read
+pub mod Parts
+pub mod Write
+pub mod Profiles
+pub mod Claims

@@ -1,0 +1,90 @@
+-- Where the fields of a message stand in the lent octets, and the message that they make up.
+use Prim.Native.Nat.{ℕ, _+_}
+use mathlib.Core.List.{List}
+use Rattle.octets.specs.Bounds.{between, behind, nowhere, partIn}
+use Rattle.octets.specs.declared.parts.Bounds.{Bounds}
+use Rattle.message.specs.Limits.{width, header}
+use Rattle.message.specs.Message as Message
+use Rattle.message.specs.Read.{Answer, moreNeeded, refused, accepted, reading}
+use Rattle.message.specs.declared.bodies.Fields.{Fields}
+use Rattle.message.specs.declared.bodies.Fields.the-variants.{SupportedProfiles, UnsupportedVersion, MediaKeys, TunneledDtls, EndpointDisconnect}
+use Rattle.message.specs.declared.bodies.KeyLengths.{KeyLengths}
+use Rattle.message.specs.declared.places.KeyPlaces.{KeyPlaces}
+use Rattle.message.specs.declared.places.Places.{Places}
+use Rattle.message.specs.declared.places.Field.{Field}
+
+-- ---- where a field stands
+
+abbrev pub identifierPlace : Bounds
+identifierPlace = behind header width
+
+-- behind the version and the list's length
+abbrev pub listPlace : (n : ℕ) → Bounds
+listPlace n = behind (header + 3) n
+
+-- behind the identifier and the length: octet A + 5
+abbrev pub dtlsPlace : (n : ℕ) → Bounds
+dtlsPlace n = behind (header + width + 2) n
+
+abbrev pub keysAt : (mki clientKey serverKey clientSalt serverSalt : Bounds) → KeyPlaces
+keysAt mki clientKey serverKey clientSalt serverSalt =
+    record { mki = mki; «client_key» = clientKey; «server_key» = serverKey; «client_salt» = clientSalt; «server_salt» = serverSalt }
+
+-- behind the identifier and the profile, each behind its length octet
+abbrev pub keyPlaces : KeyLengths → KeyPlaces
+keyPlaces k =
+    let mki = behind (header + width + 3) (k .mki) in
+    let clientKey = behind (mki .end + 1) (k .«client_key») in
+    let serverKey = behind (clientKey .end + 1) (k .«server_key») in
+    let clientSalt = behind (serverKey .end + 1) (k .«client_salt») in
+    let serverSalt = behind (clientSalt .end + 1) (k .«server_salt») in
+    keysAt mki clientKey serverKey clientSalt serverSalt
+
+abbrev pub noKeys : KeyPlaces
+noKeys = keysAt nowhere nowhere nowhere nowhere nowhere
+
+-- ---- every field of an answer; one that is not there is empty, from 0 to 0
+
+abbrev pub placesAt : (body identifier list dtls : Bounds) → KeyPlaces → Places
+placesAt body identifier list dtls keys =
+    record { body = body; identifier = identifier; «profile_list» = list; dtls = dtls; keys = keys }
+
+-- a message's body is all that was taken behind the header; of type 2 it is the one octet that is read
+abbrev pub fieldPlaces : Fields → (taken : ℕ) → Places
+fieldPlaces (SupportedProfiles version n) taken = placesAt (between header taken) nowhere (listPlace n) nowhere noKeys
+fieldPlaces (UnsupportedVersion version) taken = placesAt (behind header 1) nowhere nowhere nowhere noKeys
+fieldPlaces (MediaKeys profile k) taken = placesAt (between header taken) identifierPlace nowhere nowhere (keyPlaces k)
+fieldPlaces (TunneledDtls n) taken = placesAt (between header taken) identifierPlace nowhere (dtlsPlace n) noKeys
+fieldPlaces EndpointDisconnect taken = placesAt (between header taken) identifierPlace nowhere nowhere noKeys
+
+abbrev pub places : Answer → Places
+places moreNeeded = placesAt nowhere nowhere nowhere nowhere noKeys
+places (refused number taken) = placesAt nowhere nowhere nowhere nowhere noKeys
+places (accepted f taken) = fieldPlaces f taken
+
+abbrev pub place : Places → Field → Bounds
+place p Field.Body = p .body
+place p Field.Identifier = p .identifier
+place p Field.ProfileList = p .«profile_list»
+place p Field.Dtls = p .dtls
+place p Field.Mki = p .keys .mki
+place p Field.ClientKey = p .keys .«client_key»
+place p Field.ServerKey = p .keys .«server_key»
+place p Field.ClientSalt = p .keys .«client_salt»
+place p Field.ServerSalt = p .keys .«server_salt»
+
+-- a field of the message at the front of s, as a part of s
+unfoldable pub field : List ℕ → Field → List ℕ
+field s f = partIn s (place (places (reading s)) f)
+
+-- ---- what an answer means on its octets
+
+unfoldable pub meaning : List ℕ → Fields → Message.Message
+meaning s (SupportedProfiles version n) = Message.supportedProfiles version (partIn s (listPlace n))
+meaning s (UnsupportedVersion version) = Message.unsupportedVersion version
+meaning s (MediaKeys profile k) =
+    Message.mediaKeys (partIn s identifierPlace) profile (partIn s (keyPlaces k .mki))
+    (partIn s (keyPlaces k .«client_key»)) (partIn s (keyPlaces k .«server_key»))
+    (partIn s (keyPlaces k .«client_salt»)) (partIn s (keyPlaces k .«server_salt»))
+meaning s (TunneledDtls n) = Message.tunneledDtls (partIn s identifierPlace) (partIn s (dtlsPlace n))
+meaning s EndpointDisconnect = Message.endpointDisconnect (partIn s identifierPlace)

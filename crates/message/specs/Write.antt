@@ -1,0 +1,79 @@
+-- What writing a message answers, and what it leaves in the output: document 01, "Tunnel messages", refusals 20; 5; 2; 13.
+use Prim.Native.Nat.{ℕ, _%_, _≤_}
+use mathlib.Core.Path.{_≡_}
+use mathlib.Core.Bool.{Bool, true, false, cond, not, _&&_}
+use mathlib.Core.List.{List, _++_}
+use lib.ListN.{length, drop}
+use lib.Dec.{ltb, eqb}
+use Rattle.octets.specs.Range.{within}
+use Rattle.message.specs.Limits.{width, bodyLimit, most8, most16}
+use Rattle.message.specs.Message.{Message, supportedProfiles, unsupportedVersion, mediaKeys, tunneledDtls, endpointDisconnect, encode, encodeBody}
+use Rattle.message.specs.declared.writing.Write.{Write}
+
+-- a refusal by its number, or the number of octets written
+pub data Verdict : Type 0 where
+  refused : (number : ℕ) → Verdict
+  written : (count : ℕ) → Verdict
+
+-- a refusal where its test holds, else what comes next
+abbrev pub refuse : Bool → (number : ℕ) → Verdict → Verdict
+refuse test number next = cond test (refused number) next
+
+-- an identifier has A octets
+abbrev pub identifierFits : Message → Bool
+identifierFits (supportedProfiles version profiles) = true
+identifierFits (unsupportedVersion version) = true
+identifierFits (mediaKeys identifier profile mki clientKey serverKey clientSalt serverSalt) = eqb (length identifier) width
+identifierFits (tunneledDtls identifier dtls) = eqb (length identifier) width
+identifierFits (endpointDisconnect identifier) = eqb (length identifier) width
+
+-- no field is shorter than its least or longer than its length octets can say, and a profile list is even
+abbrev pub fieldsFit : Message → Bool
+fieldsFit (supportedProfiles version profiles) = within 1 most16 (length profiles) && eqb (length profiles % 2) 0
+fieldsFit (unsupportedVersion version) = true
+fieldsFit (mediaKeys identifier profile mki clientKey serverKey clientSalt serverSalt) =
+    within 0 most8 (length mki) && within 1 most8 (length clientKey) && within 1 most8 (length serverKey)
+    && within 1 most8 (length clientSalt) && within 1 most8 (length serverSalt)
+fieldsFit (tunneledDtls identifier dtls) = within 1 most16 (length dtls)
+fieldsFit (endpointDisconnect identifier) = true
+
+-- a body within the limit, and a message that there is room for
+abbrev pub fitting : (bodyLength messageLength room : ℕ) → Verdict
+fitting bodyLength messageLength room =
+    refuse (ltb bodyLimit bodyLength) 2
+    (refuse (ltb room messageLength) 13
+    (written messageLength))
+
+-- the earliest refusal, or the octets that are written; refusals 2 and 13 go by the encoding
+unfoldable pub writing : Message → (room : ℕ) → Verdict
+writing m room =
+    refuse (not (identifierFits m)) 20
+    (refuse (not (fieldsFit m)) 5
+    (fitting (length (encodeBody m)) (length (encode m)) room))
+
+-- no refusal applies (for the contracts of private functions)
+pub record Fits (m : Message) (room : ℕ) : Type 0 where
+  pub identifier : identifierFits m ≡ true
+  pub fields : fieldsFit m ≡ true
+  pub within : length (encodeBody m) ≤ bodyLimit
+  pub there : length (encode m) ≤ room
+
+abbrev pub accepts : Verdict → Bool
+accepts (refused number) = false
+accepts (written count) = true
+
+-- the output afterwards: the message at its front and the octets behind as they were, or every octet as it was
+abbrev pub outputAfter : Verdict → Message → List ℕ → List ℕ
+outputAfter (refused number) m out = out
+outputAfter (written count) m out = encode m ++ drop (length (encode m)) out
+
+unfoldable pub output : Message → List ℕ → List ℕ
+output m out = outputAfter (writing m (length out)) m out
+
+-- the number and the values that each case of the enum stands for
+abbrev pub verdictOf : Write → Verdict
+verdictOf Write.IdentifierLength = refused 20
+verdictOf Write.BadFields = refused 5
+verdictOf Write.Oversize = refused 2
+verdictOf Write.NoRoom = refused 13
+verdictOf (Write.Written count) = written count

@@ -1,0 +1,135 @@
+// What a body holds, by the message's kind. The body alone is read.
+use crate::framing::Kind;
+use crate::walking;
+use crate::walking::BEGIN;
+ghost use mathlib.Core.Path.{_≡_};
+ghost use Rattle.message.specs.Body as Spec;
+
+// A, the width of an association identifier.
+pub const WIDTH: usize = 16;
+
+// The length octets of MediaKeys.
+pub struct KeyLengths {
+    pub mki: u8,
+    pub client_key: u8,
+    pub server_key: u8,
+    pub client_salt: u8,
+    pub server_salt: u8,
+}
+
+// The numbers and lengths of a message's fields; `places` tells where they stand.
+pub enum Fields {
+    SupportedProfiles { version: u8, list_length: u16 },
+    UnsupportedVersion { version: u8 },
+    MediaKeys { profile: u16, lengths: KeyLengths },
+    TunneledDtls { dtls_length: u16 },
+    EndpointDisconnect,
+}
+
+pub enum Body {
+    // Refusal 3.
+    Unlisted,
+    // Refusal 5.
+    Bad,
+    Good { fields: Fields },
+}
+
+fn supported_profiles(body: &[u8]) -> Body
+    ensures { λ r. ⌜ Spec.contentOf r ≡ Spec.supportedProfiles (now (body .entry)) ⌝ }
+{
+    let version = walking::fixed(body, 1, BEGIN);
+    let list = walking::profile_list(body, version);
+    if walking::complete(body, list) {
+        Body::Good {
+            fields: Fields::SupportedProfiles {
+                version: octets::octet(body, 0),
+                list_length: octets::number16(body, version.at),
+            },
+        }
+    } else {
+        Body::Bad
+    }
+}
+
+fn unsupported_version(body: &[u8]) -> Body
+    ensures { λ r. ⌜ Spec.contentOf r ≡ Spec.unsupportedVersion (now (body .entry)) ⌝ }
+{
+    if 1 <= body.len() {
+        Body::Good {
+            fields: Fields::UnsupportedVersion {
+                version: octets::octet(body, 0),
+            },
+        }
+    } else {
+        Body::Bad
+    }
+}
+
+fn media_keys(body: &[u8]) -> Body
+    ensures { λ r. ⌜ Spec.contentOf r ≡ Spec.mediaKeys (now (body .entry)) ⌝ }
+{
+    let identifier = walking::fixed(body, WIDTH, BEGIN);
+    let profile = walking::fixed(body, 2, identifier);
+    let mki = walking::field8(body, 0, profile);
+    let client_key = walking::field8(body, 1, mki);
+    let server_key = walking::field8(body, 1, client_key);
+    let client_salt = walking::field8(body, 1, server_key);
+    let server_salt = walking::field8(body, 1, client_salt);
+    if walking::complete(body, server_salt) {
+        Body::Good {
+            fields: Fields::MediaKeys {
+                profile: octets::number16(body, identifier.at),
+                lengths: KeyLengths {
+                    mki: octets::octet(body, profile.at),
+                    client_key: octets::octet(body, mki.at),
+                    server_key: octets::octet(body, client_key.at),
+                    client_salt: octets::octet(body, server_key.at),
+                    server_salt: octets::octet(body, client_salt.at),
+                },
+            },
+        }
+    } else {
+        Body::Bad
+    }
+}
+
+fn tunneled_dtls(body: &[u8]) -> Body
+    ensures { λ r. ⌜ Spec.contentOf r ≡ Spec.tunneledDtls (now (body .entry)) ⌝ }
+{
+    let identifier = walking::fixed(body, WIDTH, BEGIN);
+    let dtls = walking::field16(body, identifier);
+    if walking::complete(body, dtls) {
+        Body::Good {
+            fields: Fields::TunneledDtls {
+                dtls_length: octets::number16(body, identifier.at),
+            },
+        }
+    } else {
+        Body::Bad
+    }
+}
+
+fn endpoint_disconnect(body: &[u8]) -> Body
+    ensures { λ r. ⌜ Spec.contentOf r ≡ Spec.endpointDisconnect (now (body .entry)) ⌝ }
+{
+    if walking::complete(body, walking::fixed(body, WIDTH, BEGIN)) {
+        Body::Good {
+            fields: Fields::EndpointDisconnect,
+        }
+    } else {
+        Body::Bad
+    }
+}
+
+pub fn read_body(kind: Kind, body: &[u8]) -> Body
+    ensures { λ r. ⌜ Spec.contentOf r ≡ Spec.content kind (now (body .entry)) ⌝ }
+{
+    match kind {
+        Kind::SupportedProfiles => supported_profiles(body),
+        Kind::UnsupportedVersion => unsupported_version(body),
+        Kind::MediaKeys => media_keys(body),
+        Kind::TunneledDtls => tunneled_dtls(body),
+        Kind::EndpointDisconnect => endpoint_disconnect(body),
+        Kind::Unlisted => Body::Unlisted,
+    }
+}

@@ -1,0 +1,93 @@
+// What the front of lent octets holds before a body is looked at.
+ghost use mathlib.Core.Path.{_≡_};
+ghost use Rattle.message.specs.Frame as Spec;
+
+// The longest body, read or written.
+pub const BODY_LIMIT: u16 = 4096;
+
+// What stands before a body: type 1, length 2.
+pub const HEADER: usize = 3;
+
+// What the type octet says.
+pub enum Kind {
+    SupportedProfiles,
+    UnsupportedVersion,
+    MediaKeys,
+    TunneledDtls,
+    EndpointDisconnect,
+    Unlisted,
+}
+
+pub enum Frame {
+    MoreNeeded,
+    // An UnsupportedVersion of length 0: refusal 5, three octets taken.
+    EmptyVersion,
+    // An accepted UnsupportedVersion: every lent octet is taken.
+    Version { version: u8 },
+    // Refusal 2, none taken.
+    Oversize,
+    // A whole message.
+    Whole { kind: Kind, body_length: u16 },
+}
+
+// The kind that a type octet stands for.
+pub fn kind_of(message_type: u8) -> Kind
+    ensures { λ r. ⌜ r ≡ Spec.kindOf «message_type» ⌝ }
+{
+    match message_type {
+        1 => Kind::SupportedProfiles,
+        2 => Kind::UnsupportedVersion,
+        3 => Kind::MediaKeys,
+        4 => Kind::TunneledDtls,
+        5 => Kind::EndpointDisconnect,
+        0 | 6..=255 => Kind::Unlisted,
+    }
+}
+
+// An UnsupportedVersion, which is never waited for beyond its fourth octet.
+pub fn version_frame(s: &[u8]) -> Frame
+    ensures { λ r. ⌜ Spec.framingOf r ≡ Spec.versionFrame (now (s .entry)) ⌝ }
+{
+    if s.len() < HEADER {
+        return Frame::MoreNeeded;
+    }
+    if octets::number16(s, 1) == 0 {
+        return Frame::EmptyVersion;
+    }
+    if s.len() < HEADER + 1 {
+        return Frame::MoreNeeded;
+    }
+    Frame::Version {
+        version: octets::octet(s, HEADER),
+    }
+}
+
+// A message of any type, within the limit and whole.
+pub fn plain_frame(s: &[u8]) -> Frame
+    ensures { λ r. ⌜ Spec.framingOf r ≡ Spec.plainFrame (now (s .entry)) ⌝ }
+{
+    if s.len() < HEADER {
+        return Frame::MoreNeeded;
+    }
+    let body_length = octets::number16(s, 1);
+    if BODY_LIMIT < body_length {
+        return Frame::Oversize;
+    }
+    if s.len() < HEADER + body_length as usize {
+        return Frame::MoreNeeded;
+    }
+    Frame::Whole {
+        kind: kind_of(octets::octet(s, 0)),
+        body_length,
+    }
+}
+
+pub fn read_frame(s: &[u8]) -> Frame
+    ensures { λ r. ⌜ Spec.framingOf r ≡ Spec.frame (now (s .entry)) ⌝ }
+{
+    if octets::octet(s, 0) == 2 {
+        version_frame(s)
+    } else {
+        plain_frame(s)
+    }
+}

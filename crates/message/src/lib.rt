@@ -1,0 +1,45 @@
+// The tunnel messages between a media distributor and a key distributor (RFC 9185, section 6),
+// read and written, and the rules on profiles and key lengths that tables of associations share.
+mod bodies;
+mod example;
+mod framing;
+mod places;
+mod profiles;
+mod putting;
+mod reading;
+mod walking;
+mod writing;
+
+pub use bodies::Body;
+pub use bodies::Fields;
+pub use bodies::KeyLengths;
+pub use bodies::read_body;
+pub use example::two_profiles;
+pub use framing::Frame;
+pub use framing::Kind;
+pub use framing::kind_of;
+pub use framing::plain_frame;
+pub use framing::read_frame;
+pub use framing::version_frame;
+pub use places::Field;
+pub use places::KeyPlaces;
+pub use places::Places;
+pub use places::body;
+pub use places::dtls;
+pub use places::field_of;
+pub use places::place_of;
+pub use places::places_of;
+pub use profiles::good_list;
+pub use profiles::in_list;
+pub use profiles::is_profile;
+pub use profiles::key_length;
+pub use profiles::keys_fit;
+pub use profiles::mki_and_salts_fit;
+pub use reading::Read;
+pub use reading::read_message;
+pub use writing::Write;
+pub use writing::write_endpoint_disconnect;
+pub use writing::write_media_keys;
+pub use writing::write_supported_profiles;
+pub use writing::write_tunneled_dtls;
+pub use writing::write_unsupported_version;
