@@ -1,10 +1,11 @@
 -- What the framing of any octets says of them.
 use Prim.Native.Nat.{ℕ, _+_, _≤_}
-use mathlib.Core.Path.{_≡_, refl}
+use mathlib.Core.Path.{_≡_, refl, subst}
 use mathlib.Core.List.{List}
 use lib.ListN.{length}
 use lib.Dec.{ltb, eqb}
-use borrow.Author.Tests.{eqb-true, eqb-false, ltb-false}
+use native.Mathlib.Omega.{arith}
+use borrow.Author.Tests.{le-ltb, ne-eqb, eqb-true, eqb-false, ltb-false}
 use Rattle.octets.specs.Number.{octetAt, number16At}
 use Rattle.octets.proofs.Tests.{by-choice}
 use Rattle.message.specs.Limits.{bodyLimit, header}
@@ -38,10 +39,20 @@ pub record Version (s : List ℕ) (number : ℕ) : Type 0 where
 -- the lent octets hold a whole message, of another type than 2
 pub record Whole (s : List ℕ) (kind : Kind) (n : ℕ) : Type 0 where
   pub other : octetAt s 0 ≡ 2 → ⊥
-  pub type : KindSays (octetAt s 0) kind
+  pub kinds : kindOf (octetAt s 0) ≡ kind
   pub told : number16At s 1 ≡ n
   pub small : n ≤ bodyLimit
   pub there : header + n ≤ length s
+
+pub whole-type : {s : List ℕ} {kind : Kind} {n : ℕ} → Whole s kind n → KindSays (octetAt s 0) kind
+whole-type {s} w = subst (KindSays (octetAt s 0)) (w .kinds) (kind-says (octetAt s 0))
+
+-- such octets are framed as that message
+pub whole-frame : (s : List ℕ) (kind : Kind) (n : ℕ) → Whole s kind n → frame s ≡ whole kind n
+unfolding frame plainFrame
+whole-frame s kind n h =
+    let l : header ≤ length s = omega arith in
+    simp (ne-eqb _ _ (h .other), le-ltb _ _ l, h .told, le-ltb _ _ (h .small), le-ltb _ _ (h .there), h .kinds)
 
 abbrev pub FrameSays : List ℕ → Framing → Type 0
 FrameSays s moreNeeded = Unit {0}
@@ -66,7 +77,7 @@ module _ (s : List ℕ) where
       by-choice (FrameSays s) (ltb (length s) (header + number16At s 1)) _ _ (λ _. tt) (λ there.
       record {
         other = t;
-        type = kind-says (octetAt s 0);
+        kinds = refl;
         told = refl;
         small = ltb-false _ _ small;
         there = ltb-false _ _ there;

@@ -12,12 +12,13 @@ use Rattle.message.specs.Limits.{width, most8}
 use Rattle.message.specs.Message.{encodeBody, mediaKeys}
 use Rattle.message.specs.Write.{fieldsFit}
 
+-- each has its least and no more octets than its length octet can tell
 pub record KeyFields (m ck sk cs ss : List ℕ) : Type 0 where
-  pub mki : length m ≤ most8
-  pub clientKey : length ck ≤ most8
-  pub serverKey : length sk ≤ most8
-  pub clientSalt : length cs ≤ most8
-  pub serverSalt : length ss ≤ most8
+  pub mki : (0 ≤ length m) × (length m ≤ most8)
+  pub clientKey : (1 ≤ length ck) × (length ck ≤ most8)
+  pub serverKey : (1 ≤ length sk) × (length sk ≤ most8)
+  pub clientSalt : (1 ≤ length cs) × (length cs ≤ most8)
+  pub serverSalt : (1 ≤ length ss) × (length ss ≤ most8)
 
 module _ (i : List ℕ) (p : ℕ) (m ck sk cs ss : List ℕ) where
   pub keys-fit : fieldsFit (mediaKeys i p m ck sk cs ss) ≡ true → KeyFields m ck sk cs ss
@@ -27,11 +28,11 @@ module _ (i : List ℕ) (p : ℕ) (m ck sk cs ss : List ℕ) where
       let c = both _ (within 1 most8 (length sk)) (d .0) in
       let b = both (within 0 most8 (length m)) (within 1 most8 (length ck)) (c .0) in
       record {
-        mki = within-true 0 most8 _ (b .0) .1;
-        clientKey = within-true 1 most8 _ (b .1) .1;
-        serverKey = within-true 1 most8 _ (c .1) .1;
-        clientSalt = within-true 1 most8 _ (d .1) .1;
-        serverSalt = within-true 1 most8 _ (e .1) .1;
+        mki = within-true 0 most8 _ (b .0);
+        clientKey = within-true 1 most8 _ (b .1);
+        serverKey = within-true 1 most8 _ (c .1);
+        clientSalt = within-true 1 most8 _ (d .1);
+        serverSalt = within-true 1 most8 _ (e .1);
       }
 
   pub keys-length : length i ≡ width

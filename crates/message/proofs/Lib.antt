@@ -3,7 +3,6 @@ pub mod VerdictLaws
 pub mod KeyFields
 pub mod Pieces
 pub mod ProfileLaws
-pub mod InPart
 pub mod FrameSays
 pub mod WalkSays
 pub mod Encoded
@@ -11,3 +10,8 @@ pub mod Reached
 pub mod ReadSays
 pub mod WriteBack
 pub mod VersionBack
+pub mod WalkLaws
+pub mod EncodeLaws
+pub mod KeysBack
+pub mod ReadBack
+pub mod Stays

@@ -19,7 +19,7 @@ use Rattle.message.specs.Message.{vector8, vector16}
 use Rattle.message.specs.Walk.{begin, past, fixed, field8, field16, profileList}
 use Rattle.message.specs.declared.framing.Kind.{Kind}
 use Rattle.message.specs.declared.walking.Walk.{Walk}
-use Rattle.message.proofs.InPart.{octet-in, number-in}
+use Rattle.octets.proofs.InPart.{octet-in, number-in}
 use Rattle.message.proofs.FrameSays.{Whole}
 use Rattle.message.proofs.WalkSays.{past-says}
 use Rattle.message.proofs.Encoded.{bodyOf, body-length}

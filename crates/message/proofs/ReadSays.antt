@@ -25,7 +25,7 @@ use Rattle.message.specs.declared.framing.Kind.{Kind}
 use Rattle.message.specs.declared.bodies.Fields.{Fields}
 use Rattle.message.specs.declared.bodies.Fields.the-variants.{SupportedProfiles, UnsupportedVersion, MediaKeys, TunneledDtls, EndpointDisconnect}
 use Rattle.message.specs.declared.walking.Walk.{Walk}
-use Rattle.message.proofs.FrameSays.{Version, Whole, FrameSays, frame-says}
+use Rattle.message.proofs.FrameSays.{Version, Whole, whole-type, FrameSays, frame-says}
 use Rattle.message.proofs.WalkSays.{complete-says}
 use Rattle.message.proofs.Encoded.{bodyOf, body-length, encoded, encoded-written}
 use Rattle.message.proofs.Reached.{Reaches, begun, past-part, past-octet, past-number, past-field8, past-field16, past-list}
@@ -102,11 +102,11 @@ module _ (s : List ℕ) (o : Octets s) where
 
   body-says : (kind : Kind) (n : ℕ) → Whole s kind n → AnswerSays s (bodyAnswer (header + n) (Body.content kind (bodyOf s n)))
   unfolding Body.content
-  body-says Kind.SupportedProfiles n whole = profiles-say whole (whole .type)
-  body-says Kind.UnsupportedVersion n whole = absurd (whole .other (whole .type))
-  body-says Kind.MediaKeys n whole = keys-say whole (whole .type)
-  body-says Kind.TunneledDtls n whole = dtls-says whole (whole .type)
-  body-says Kind.EndpointDisconnect n whole = disconnect-says whole (whole .type)
+  body-says Kind.SupportedProfiles n whole = profiles-say whole (whole-type whole)
+  body-says Kind.UnsupportedVersion n whole = absurd (whole .other (whole-type whole))
+  body-says Kind.MediaKeys n whole = keys-say whole (whole-type whole)
+  body-says Kind.TunneledDtls n whole = dtls-says whole (whole-type whole)
+  body-says Kind.EndpointDisconnect n whole = disconnect-says whole (whole-type whole)
   body-says Kind.Unlisted n whole = tt
 
   by-frame : (f : Frame.Framing) → FrameSays s f → AnswerSays s (frameAnswer s f)

@@ -3,6 +3,7 @@ use Prim.Native.Nat.{ℕ, _+_, _≤_}
 use mathlib.Core.Path.{_≡_}
 use mathlib.Core.List.{List, _++_}
 use lib.ListN.{length, take}
+use Rattle.octets.specs.Number.{Octets}
 use Rattle.message.specs.Limits.{most16}
 use Rattle.message.specs.Message.{Message, supportedProfiles, unsupportedVersion, mediaKeys, tunneledDtls, endpointDisconnect, encode}
 use Rattle.message.specs.Read.{Answer, moreNeeded, refused, accepted, reading}
@@ -60,4 +61,5 @@ lentMore (accepted EndpointDisconnect taken) more = accepted EndpointDisconnect 
 -- octets behind which reading no longer asks for more
 pub record Ended (s : List ℕ) : Type 0 where
   pub rest : List ℕ
+  pub octets : Octets rest
   pub ended : reading (s ++ rest) ≡ moreNeeded → ⊥

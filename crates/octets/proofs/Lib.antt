@@ -4,3 +4,6 @@ pub mod NumberLaws
 pub mod RangeLaws
 pub mod SameLaws
 pub mod WriteLaws
+pub mod InPart
+pub mod HoldLaws
+pub mod LongerLaws

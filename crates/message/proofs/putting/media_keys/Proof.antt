@@ -54,27 +54,27 @@ put-header-requires c κs =
 put-vector8-requires : tie.Need-put-vector8-requires
 put-vector8-requires c κs =
     let a = c .before .before .before .before .before .before .before .before .before .before .before .before .before .before .before .before .before .before .before .before .args in
-    keys-fit (now (a .id)) (a .profile) (now (a .mki)) (now (a .client-key)) (now (a .server-key)) (now (a .client-salt)) (now (a .server-salt)) (c .before .before .before .before .before .before .before .before .before .before .before .before .before .before .before .before .before .before .before .before .pre .fields) .mki
+    keys-fit (now (a .id)) (a .profile) (now (a .mki)) (now (a .client-key)) (now (a .server-key)) (now (a .client-salt)) (now (a .server-salt)) (c .before .before .before .before .before .before .before .before .before .before .before .before .before .before .before .before .before .before .before .before .pre .fields) .mki .1
 
 put-vector8-requires-2 : tie.Need-put-vector8-requires-2
 put-vector8-requires-2 c κs =
     let a = c .before .before .before .before .before .before .before .before .before .before .before .before .before .before .before .before .before .before .before .before .before .before .before .before .args in
-    keys-fit (now (a .id)) (a .profile) (now (a .mki)) (now (a .client-key)) (now (a .server-key)) (now (a .client-salt)) (now (a .server-salt)) (c .before .before .before .before .before .before .before .before .before .before .before .before .before .before .before .before .before .before .before .before .before .before .before .before .pre .fields) .clientKey
+    keys-fit (now (a .id)) (a .profile) (now (a .mki)) (now (a .client-key)) (now (a .server-key)) (now (a .client-salt)) (now (a .server-salt)) (c .before .before .before .before .before .before .before .before .before .before .before .before .before .before .before .before .before .before .before .before .before .before .before .before .pre .fields) .clientKey .1
 
 put-vector8-requires-3 : tie.Need-put-vector8-requires-3
 put-vector8-requires-3 c κs =
     let a = c .before .before .before .before .before .before .before .before .before .before .before .before .before .before .before .before .before .before .before .before .before .before .before .before .before .before .before .before .args in
-    keys-fit (now (a .id)) (a .profile) (now (a .mki)) (now (a .client-key)) (now (a .server-key)) (now (a .client-salt)) (now (a .server-salt)) (c .before .before .before .before .before .before .before .before .before .before .before .before .before .before .before .before .before .before .before .before .before .before .before .before .before .before .before .before .pre .fields) .serverKey
+    keys-fit (now (a .id)) (a .profile) (now (a .mki)) (now (a .client-key)) (now (a .server-key)) (now (a .client-salt)) (now (a .server-salt)) (c .before .before .before .before .before .before .before .before .before .before .before .before .before .before .before .before .before .before .before .before .before .before .before .before .before .before .before .before .pre .fields) .serverKey .1
 
 put-vector8-requires-4 : tie.Need-put-vector8-requires-4
 put-vector8-requires-4 c κs =
     let a = c .before .before .before .before .before .before .before .before .before .before .before .before .before .before .before .before .before .before .before .before .before .before .before .before .before .before .before .before .before .before .before .before .args in
-    keys-fit (now (a .id)) (a .profile) (now (a .mki)) (now (a .client-key)) (now (a .server-key)) (now (a .client-salt)) (now (a .server-salt)) (c .before .before .before .before .before .before .before .before .before .before .before .before .before .before .before .before .before .before .before .before .before .before .before .before .before .before .before .before .before .before .before .before .pre .fields) .clientSalt
+    keys-fit (now (a .id)) (a .profile) (now (a .mki)) (now (a .client-key)) (now (a .server-key)) (now (a .client-salt)) (now (a .server-salt)) (c .before .before .before .before .before .before .before .before .before .before .before .before .before .before .before .before .before .before .before .before .before .before .before .before .before .before .before .before .before .before .before .before .pre .fields) .clientSalt .1
 
 put-vector8-requires-5 : tie.Need-put-vector8-requires-5
 put-vector8-requires-5 c κs =
     let a = c .before .before .before .before .before .before .before .before .before .before .before .before .before .before .before .before .before .before .before .before .before .before .before .before .before .before .before .before .before .before .before .before .before .before .before .before .args in
-    keys-fit (now (a .id)) (a .profile) (now (a .mki)) (now (a .client-key)) (now (a .server-key)) (now (a .client-salt)) (now (a .server-salt)) (c .before .before .before .before .before .before .before .before .before .before .before .before .before .before .before .before .before .before .before .before .before .before .before .before .before .before .before .before .before .before .before .before .before .before .before .before .pre .fields) .serverSalt
+    keys-fit (now (a .id)) (a .profile) (now (a .mki)) (now (a .client-key)) (now (a .server-key)) (now (a .client-salt)) (now (a .server-salt)) (c .before .before .before .before .before .before .before .before .before .before .before .before .before .before .before .before .before .before .before .before .before .before .before .before .before .before .before .before .before .before .before .before .before .before .before .before .pre .fields) .serverSalt .1
 
 returns : tie.Need-returns
 returns c =
