@@ -4,7 +4,7 @@ use mathlib.Core.Path.{_≡_, sym, ap, _∙_}
 use mathlib.Core.Bool.{true}
 use mathlib.Core.List.{List, _∷_, _++_}
 use native.Mathlib.Omega.{arith}
-use lib.ListN.{length, take}
+use lib.ListN.{length, take, drop}
 use lib.Seq.{length-take-le}
 use borrow.Author.Tests.{le-ltb}
 use Rattle.octets.specs.Number.{octetAt, number16At, octets16, Octets}
@@ -13,7 +13,7 @@ use Rattle.octets.proofs.NumberLaws.{part-octet, part-number16}
 use Rattle.octets.proofs.PartLaws.{part-join, part-length, part-front}
 use Rattle.message.specs.Limits.{bodyLimit, header}
 use Rattle.message.specs.Message.{Message, typeOf, encode, encodeBody}
-use Rattle.message.specs.Write.{identifierFits, fieldsFit, writing, written}
+use Rattle.message.specs.Write.{identifierFits, fieldsFit, writing, written, output}
 
 abbrev pub bodyOf : List ℕ → (n : ℕ) → List ℕ
 bodyOf s n = part s header (header + n)
@@ -48,3 +48,11 @@ module _ (s : List ℕ) (n : ℕ) (there : header + n ≤ length s) where
       encoded-written i f small room h =
           let l : length (encode m) ≡ header + n = ap length encoded ∙ length-take-le (header + n) s there in
           rw (i, f, body-told, l, le-ltb bodyLimit n, le-ltb room (header + n))
+
+      -- at the front of the output
+      pub encoded-output : identifierFits m ≡ true → fieldsFit m ≡ true → n ≤ bodyLimit
+          → (out : List ℕ) → header + n ≤ length out → output m out ≡ take (header + n) s ++ drop (header + n) out
+      unfolding output
+      encoded-output i f small out h =
+          let l : length (encode m) ≡ header + n = ap length encoded ∙ length-take-le (header + n) s there in
+          rw (encoded-written i f small (length out) h, l, encoded)

@@ -9,7 +9,6 @@ use Rattle.octets.specs.Number.{octets16}
 use Rattle.message.specs.Limits.{width, most16}
 use Rattle.message.specs.Message.{Message, vector8, encodeBody, mediaKeys}
 use Rattle.message.specs.Frame.{kindOf}
-use Rattle.message.specs.Write.{Fits}
 use Rattle.message.specs.Body as Body
 use Rattle.message.specs.Parts.{identifierPlace, keyPlaces, meaning}
 use Rattle.message.specs.Claims.{ReadsBack}
@@ -17,6 +16,7 @@ use Rattle.message.specs.declared.bodies.Fields.the-variants.{MediaKeys}
 use Rattle.message.specs.declared.bodies.KeyLengths.{KeyLengths}
 use Rattle.octets.proofs.HoldLaws.{holds-all, holds-two, holds-number}
 use Rattle.message.proofs.WalkLaws.{fixed-good, field8-good, complete-good}
+use Rattle.message.proofs.VerdictLaws.{Fits}
 use Rattle.message.proofs.KeyFields.{keys-fit}
 use Rattle.message.proofs.EncodeLaws.{lent-part, reads-back}
 
@@ -60,7 +60,7 @@ module _ (identifier : List ℕ) (profile : ℕ) (mki clientKey serverKey client
       let e = field8-good serverSalt [] 1 (d .next) (fit .serverSalt .0) in
       let end = width + 2 + (1 + length mki) + (1 + length clientKey) + (1 + length serverKey) + (1 + length clientSalt) + (1 + length serverSalt) in
       let places = keyPlaces lengths in
-      reads-back keys rest (λ z. omega arith) (accepted .within) (MediaKeys profile lengths) refl
+      reads-back keys rest (λ z. omega arith) (accepted .limit) (MediaKeys profile lengths) refl
       (simp (
         fixed-good (i .0) width wide,
         fixed-good (o .0) 2 refl,

@@ -9,6 +9,7 @@ pub mod Encoded
 pub mod Reached
 pub mod ReadSays
 pub mod WriteBack
+pub mod FieldsMean
 pub mod VersionBack
 pub mod WalkLaws
 pub mod EncodeLaws

@@ -4,7 +4,7 @@ use mathlib.Core.Path.{_≡_, sym, ap, _∙_}
 use mathlib.Core.List.{List, _∷_, _++_}
 use lib.ListN.{length, drop}
 use Rattle.octets.specs.Number.{octets16}
-use Rattle.octets.specs.Write.{Wrote}
+use Rattle.octets.proofs.WriteLaws.{Wrote}
 use Rattle.message.specs.Message.{Message, typeOf, encode, encodeBody}
 
 module _ {l p x : List ℕ} {at : ℕ} (m : Message) (n : ℕ) (w : Wrote l p x at) where

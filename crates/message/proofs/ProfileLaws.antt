@@ -1,7 +1,8 @@
 -- Laws of profile lists: an entry is two octets, and a loop over them goes two octets on.
 use Prim.Native.Nat.{ℕ, suc, _+_, _≤_, _<_}
 use mathlib.Core.Path.{_≡_, refl, _∙_}
-use mathlib.Core.Bool.{Bool, true, false, not, _&&_}
+use mathlib.Core.Bool.{Bool, true, false, cond, not, _&&_, _||_}
+use lib.Dec.{eqb}
 use mathlib.Core.List.{List, [], _∷_}
 use native.Mathlib.Omega.{arith}
 use native.Mathlib.Numerals.{add-one}
@@ -9,7 +10,17 @@ use lib.ListN.{length, drop, length-drop}
 use lib.Seq.{drop-cons}
 use borrow.Author.Tests.{eq-eqb, ne-eqb}
 use Rattle.octets.specs.Number.{number16At}
-use Rattle.message.specs.Profiles.{entries, inList, sound, isProfile}
+use Rattle.message.specs.Profiles.{entries, inList, sound, isProfile, keyLength}
+
+-- a profile is a number whose keys have a length
+table-says : (a b : Bool) → (a || (b || false)) ≡ not (eqb (cond a 16 (cond b 32 0)) 0)
+table-says true b = refl
+table-says false true = refl
+table-says false false = refl
+
+pub has-length : (p : ℕ) → isProfile p ≡ not (eqb (keyLength p) 0)
+unfolding isProfile keyLength
+has-length p = table-says (eqb p 0x0009) (eqb p 0x000A)
 
 pub entries-next : (l : List ℕ) (at : ℕ) → at + 1 < length l → entries (drop at l) ≡ number16At l at ∷ entries (drop (at + 2) l)
 unfolding entries number16At

@@ -15,12 +15,12 @@ use Rattle.message.specs.Frame.{kindOf, frame, versionFrame}
 use Rattle.message.specs.Body as Body
 use Rattle.message.specs.Read.{reading}
 use Rattle.message.specs.Parts.{identifierPlace, listPlace, dtlsPlace, meaning}
-use Rattle.message.specs.Write.{writing, written, Fits, accepts}
+use Rattle.message.specs.Write.{writing, written, accepts}
 use Rattle.message.specs.Claims.{Numbers, ReadsBack}
 use Rattle.message.specs.declared.bodies.Fields.the-variants.{SupportedProfiles, UnsupportedVersion, TunneledDtls, EndpointDisconnect}
 use Rattle.octets.proofs.HoldLaws.{holds-all, holds-two}
 use Rattle.message.proofs.WalkLaws.{fixed-good, field16-good, complete-good}
-use Rattle.message.proofs.VerdictLaws.{accepted-fits}
+use Rattle.message.proofs.VerdictLaws.{Fits, accepted-fits}
 use Rattle.message.proofs.EncodeLaws.{lent-part, reads-back}
 use Rattle.message.proofs.KeysBack.{keys-back}
 
@@ -47,7 +47,7 @@ profiles-back version profiles rest a =
     let n = within-true 1 most16 (length profiles) (fit .0) in
     let h = holds-two (version ∷ []) (vector16 profiles) (holds-all body refl) 1 refl in
     let f = field16-good profiles (h .1) (n .0) (n .1) in
-    reads-back m rest (λ e. omega arith) (a .within) (SupportedProfiles version (length profiles)) refl
+    reads-back m rest (λ e. omega arith) (a .limit) (SupportedProfiles version (length profiles)) refl
     (simp (fixed-good (h .0) 1 refl, f .list (eqb-true _ _ (fit .1)), f .says, complete-good body (1 + (2 + length profiles)) (omega arith)))
     (rw (lent-part m rest (listPlace (length profiles)) (f .held) refl refl))
 
@@ -60,7 +60,7 @@ dtls-back identifier dtls rest a =
     let n = within-true 1 most16 (length dtls) (a .fields) in
     let h = holds-two identifier (vector16 dtls) (holds-all body refl) width (omega arith) in
     let f = field16-good dtls (h .1) (n .0) (n .1) in
-    reads-back m rest (λ e. omega arith) (a .within) (TunneledDtls (length dtls)) refl
+    reads-back m rest (λ e. omega arith) (a .limit) (TunneledDtls (length dtls)) refl
     (simp (fixed-good (h .0) width wide, f .walk, f .says, complete-good body (width + (2 + length dtls)) (simp length-append (omega arith))))
     (rw (lent-part m rest identifierPlace (h .0) refl (omega arith), lent-part m rest (dtlsPlace (length dtls)) (f .held) refl refl))
 
@@ -70,7 +70,7 @@ disconnect-back identifier rest a =
     let m = endpointDisconnect identifier in
     let wide : length identifier ≡ width = eqb-true _ _ (a .identifier) in
     let h = holds-all identifier refl in
-    reads-back m rest (λ e. omega arith) (a .within) EndpointDisconnect refl
+    reads-back m rest (λ e. omega arith) (a .limit) EndpointDisconnect refl
     (simp (fixed-good h width wide, complete-good identifier width (sym wide)))
     (rw (lent-part m rest identifierPlace h refl (omega arith)))
 

@@ -27,7 +27,7 @@ use Rattle.message.specs.declared.bodies.Fields.the-variants.{SupportedP
 use Rattle.message.specs.declared.walking.Walk.{Walk}
 use Rattle.message.proofs.FrameSays.{Version, Whole, whole-type, FrameSays, frame-says}
 use Rattle.message.proofs.WalkSays.{complete-says}
-use Rattle.message.proofs.Encoded.{bodyOf, body-length, encoded, encoded-written}
+use Rattle.message.proofs.Encoded.{bodyOf, body-length, encoded, encoded-written, encoded-output}
 use Rattle.message.proofs.Reached.{Reaches, begun, past-part, past-octet, past-number, past-field8, past-field16, past-list}
 
 abbrev pub FieldsSay : List ℕ → Fields → (taken : ℕ) → Type 0
@@ -66,6 +66,7 @@ module _ (s : List ℕ) (o : Octets s) where
         says (record {
           octets = encoded s n (whole .there) o (whole .told) (meaning s f) type same;
           verdict = encoded-written s n (whole .there) o (whole .told) (meaning s f) type same (identifier end) (r .fits) (whole .small);
+          result = encoded-output s n (whole .there) o (whole .told) (meaning s f) type same (identifier end) (r .fits) (whole .small);
         })) (λ _. tt)
 
     identifier-fits : width ≤ n → eqb (length (partIn s identifierPlace)) width ≡ true

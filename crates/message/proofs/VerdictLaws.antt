@@ -1,5 +1,5 @@
 -- Laws of the verdict on a message to be written.
-use Prim.Native.Nat.{ℕ, _+_}
+use Prim.Native.Nat.{ℕ, _+_, _≤_}
 use mathlib.Core.Path.{_≡_, refl, sym}
 use mathlib.Core.Bool.{Bool, true, false, cond, not}
 use mathlib.Core.List.{List, _++_}
@@ -10,11 +10,18 @@ use lib.ListN.{length, drop, length-append}
 use Rattle.octets.proofs.Tests.{by-choice, false-true}
 use Rattle.message.specs.Limits.{header, bodyLimit}
 use Rattle.message.specs.Message.{Message, encode, encodeBody}
-use Rattle.message.specs.Write.{Verdict, refused, written, fitting, identifierFits, fieldsFit, writing, Fits, accepts, output, outputAfter}
+use Rattle.message.specs.Write.{Verdict, refused, written, fitting, identifierFits, fieldsFit, writing, accepts, output, outputAfter}
 
 pub encode-length : (m : Message) → length (encode m) ≡ header + length (encodeBody m)
 unfolding encode
 encode-length m = simp length-append (omega arith)
+
+-- no refusal applies
+pub record Fits (m : Message) (room : ℕ) : Type 0 where
+  pub identifier : identifierFits m ≡ true
+  pub fields : fieldsFit m ≡ true
+  pub limit : length (encodeBody m) ≤ bodyLimit
+  pub there : length (encode m) ≤ room
 
 -- ---- the earliest refusal
 
@@ -49,7 +56,7 @@ module _ (m : Message) (room : ℕ) where
       by-choice Accepted (not (fieldsFit m)) _ _ (λ _. tt) (λ b.
       by-choice Accepted (ltb bodyLimit (length (encodeBody m))) _ _ (λ _. tt) (λ d.
       by-choice Accepted (ltb room (length (encode m))) _ _ (λ _. tt) (λ e.
-      record { identifier = not-false _ a; fields = not-false _ b; within = ltb-false _ _ d; there = ltb-false _ _ e }))))
+      record { identifier = not-false _ a; fields = not-false _ b; limit = ltb-false _ _ d; there = ltb-false _ _ e }))))
 
   pub accepted-fits : accepts (writing m room) ≡ true → Fits m room
   accepted-fits h = accepted (writing m room) h verdict-says

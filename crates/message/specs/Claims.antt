@@ -1,18 +1,19 @@
--- What the theorems in proofs/ say of reading and writing.
+-- What the theorems in proofs/ say of reading and writing: demand 2, and that an answer once given stays.
 use Prim.Native.Nat.{ℕ, _+_, _≤_}
 use mathlib.Core.Path.{_≡_}
 use mathlib.Core.List.{List, _++_}
-use lib.ListN.{length, take}
+use lib.ListN.{length, take, drop}
 use Rattle.octets.specs.Number.{Octets}
 use Rattle.message.specs.Limits.{most16}
 use Rattle.message.specs.Message.{Message, supportedProfiles, unsupportedVersion, mediaKeys, tunneledDtls, endpointDisconnect, encode}
 use Rattle.message.specs.Read.{Answer, moreNeeded, refused, accepted, reading}
-use Rattle.message.specs.Parts.{meaning}
-use Rattle.message.specs.Write.{writing, written}
+use Rattle.message.specs.Parts.{meaning, field}
+use Rattle.message.specs.declared.places.Field.{Field}
+use Rattle.message.specs.Write.{writing, written, output}
 use Rattle.message.specs.declared.bodies.Fields.{Fields}
 use Rattle.message.specs.declared.bodies.Fields.the-variants.{SupportedProfiles, UnsupportedVersion, MediaKeys, TunneledDtls, EndpointDisconnect}
 
--- a message's numbers are such as their octets can tell
+-- a message's numbers are such as their octets can tell; a version stands as itself
 abbrev pub Numbers : Message → Type 0
 Numbers (supportedProfiles version profiles) = Unit {0}
 Numbers (unsupportedVersion version) = Unit {0}
@@ -39,6 +40,17 @@ pub record ReadsBack (m : Message) (rest : List ℕ) : Type 0 where
 pub record WritesBack (s : List ℕ) (f : Fields) (taken : ℕ) : Type 0 where
   pub octets : encode (meaning s f) ≡ take taken s
   pub verdict : (room : ℕ) → taken ≤ room → writing (meaning s f) room ≡ written taken
+  pub result : (out : List ℕ) → taken ≤ length out → output (meaning s f) out ≡ take taken s ++ drop taken out
+
+-- the message whose fields are those that the parts hand back
+abbrev pub meant : List ℕ → Fields → Message
+meant s (SupportedProfiles version n) = supportedProfiles version (field s Field.ProfileList)
+meant s (UnsupportedVersion version) = unsupportedVersion version
+meant s (MediaKeys profile k) =
+    mediaKeys (field s Field.Identifier) profile (field s Field.Mki) (field s Field.ClientKey) (field s Field.ServerKey)
+    (field s Field.ClientSalt) (field s Field.ServerSalt)
+meant s (TunneledDtls n) = tunneledDtls (field s Field.Identifier) (field s Field.Dtls)
+meant s EndpointDisconnect = endpointDisconnect (field s Field.Identifier)
 
 -- the fields are of another type than 2
 abbrev pub NotVersion : Fields → Type 0

@@ -54,4 +54,4 @@ framingOf Frame.MoreNeeded = moreNeeded
 framingOf Frame.EmptyVersion = refused 5 header
 framingOf (Frame.Version v) = version v
 framingOf Frame.Oversize = refused 2 0
-framingOf (Frame.Whole kind length) = whole kind length
+framingOf (Frame.Whole kind bodyLength) = whole kind bodyLength

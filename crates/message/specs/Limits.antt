@@ -1,7 +1,7 @@
 -- The widths and limits of tunnel messages by name.
 use Prim.Native.Nat.{ℕ}
 
--- A, the width of an association identifier: `opaque uuid[16]` (RFC 9185, section 6.3)
+-- A, the width of an association identifier: `opaque uuid[16]` (RFC 9185, section 6.1)
 abbrev pub width : ℕ
 width = 16
 

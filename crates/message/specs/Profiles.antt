@@ -24,12 +24,17 @@ lookup p (row ∷ rows) = cond (eqb p (row .number)) (row .keyLength) (lookup p 
 unfoldable pub keyLength : ℕ → ℕ
 keyLength p = lookup p profiles
 
+-- a profile is one of the table
+abbrev pub listed : ℕ → List Profile → Bool
+listed p [] = false
+listed p (row ∷ rows) = eqb p (row .number) || listed p rows
+
 unfoldable pub isProfile : ℕ → Bool
-isProfile p = not (eqb (keyLength p) 0)
+isProfile p = listed p profiles
 
 -- ---- profile lists, lent as octets, two to a profile
 
--- a lone last octet is no profile
+-- where no rule names odd lengths, a lone last octet is no profile (document 01, "Tunnel messages")
 unfoldable pub entries : List ℕ → List ℕ
 entries [] = []
 entries (x ∷ []) = []

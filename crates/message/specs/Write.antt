@@ -1,5 +1,5 @@
 -- What writing a message answers, and what it leaves in the output: document 01, "Tunnel messages", refusals 20; 5; 2; 13.
-use Prim.Native.Nat.{ℕ, _%_, _≤_}
+use Prim.Native.Nat.{ℕ, _%_}
 use mathlib.Core.Path.{_≡_}
 use mathlib.Core.Bool.{Bool, true, false, cond, not, _&&_}
 use mathlib.Core.List.{List, _++_}
@@ -51,21 +51,18 @@ writing m room =
     (refuse (not (fieldsFit m)) 5
     (fitting (length (encodeBody m)) (length (encode m)) room))
 
--- no refusal applies (for the contracts of private functions)
-pub record Fits (m : Message) (room : ℕ) : Type 0 where
-  pub identifier : identifierFits m ≡ true
-  pub fields : fieldsFit m ≡ true
-  pub within : length (encodeBody m) ≤ bodyLimit
-  pub there : length (encode m) ≤ room
-
 abbrev pub accepts : Verdict → Bool
 accepts (refused number) = false
 accepts (written count) = true
 
--- the output afterwards: the message at its front and the octets behind as they were, or every octet as it was
+-- a message at the front of an output, and the octets behind it as they were
+abbrev pub front : Message → List ℕ → List ℕ
+front m out = encode m ++ drop (length (encode m)) out
+
+-- the output afterwards: written to, or every octet as it was
 abbrev pub outputAfter : Verdict → Message → List ℕ → List ℕ
 outputAfter (refused number) m out = out
-outputAfter (written count) m out = encode m ++ drop (length (encode m)) out
+outputAfter (written count) m out = front m out
 
 unfoldable pub output : Message → List ℕ → List ℕ
 output m out = outputAfter (writing m (length out)) m out
@@ -77,3 +74,7 @@ verdictOf Write.BadFields = refused 5
 verdictOf Write.Oversize = refused 2
 verdictOf Write.NoRoom = refused 13
 verdictOf (Write.Written count) = written count
+
+-- what a writer promises: its verdict, and the output before and after
+abbrev pub Writes : Message → (before after : List ℕ) → Verdict → Type 0
+Writes m before after verdict = (verdict ≡ writing m (length before)) × (after ≡ output m before)

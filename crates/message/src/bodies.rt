@@ -1,12 +1,10 @@
 // What a body holds, by the message's kind. The body alone is read.
 use crate::framing::Kind;
+use crate::limits::WIDTH;
 use crate::walking;
 use crate::walking::BEGIN;
 ghost use mathlib.Core.Path.{_≡_};
 ghost use Rattle.message.specs.Body as Spec;
-
-// A, the width of an association identifier.
-pub const WIDTH: usize = 16;
 
 // The length octets of MediaKeys.
 pub struct KeyLengths {

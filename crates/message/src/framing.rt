@@ -1,12 +1,8 @@
 // What the front of lent octets holds before a body is looked at.
+use crate::limits::BODY_LIMIT;
+use crate::limits::HEADER;
 ghost use mathlib.Core.Path.{_≡_};
 ghost use Rattle.message.specs.Frame as Spec;
-
-// The longest body, read or written.
-pub const BODY_LIMIT: u16 = 4096;
-
-// What stands before a body: type 1, length 2.
-pub const HEADER: usize = 3;
 
 // What the type octet says.
 pub enum Kind {

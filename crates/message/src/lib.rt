@@ -3,6 +3,7 @@
 mod bodies;
 mod example;
 mod framing;
+pub mod limits;
 mod places;
 mod profiles;
 mod putting;

@@ -1,8 +1,8 @@
 // Where the fields of a message stand in the lent octets, and the fields as parts of them.
 use crate::bodies::Fields;
 use crate::bodies::KeyLengths;
-use crate::bodies::WIDTH;
-use crate::framing::HEADER;
+use crate::limits::HEADER;
+use crate::limits::WIDTH;
 use crate::reading::Read;
 use crate::reading::read_message;
 use octets::Bounds;

@@ -1,16 +1,13 @@
 // The SRTP protection profiles that we speak, and the rules that tables of associations share.
 use crate::bodies::KeyLengths;
+use crate::limits::MKI_LIMIT;
+use crate::limits::SALT_LIMIT;
 ghost use mathlib.Core.Path.{_≡_};
 ghost use mathlib.Core.Bool.{not, _&&_};
 ghost use Prim.Native.Nat.{_+_};
 ghost use lib.ListN.{drop};
 ghost use Rattle.octets.specs.Number.{number16At};
 ghost use Rattle.message.specs.Profiles as Spec;
-
-// The longest MKI and salt that a table keeps.
-pub const MKI_LIMIT: u8 = 16;
-
-pub const SALT_LIMIT: u8 = 32;
 
 // The length of a profile's keys, 0 where it is none of ours.
 pub fn key_length(profile: u16) -> u8

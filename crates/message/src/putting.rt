@@ -1,19 +1,20 @@
 // The octets of messages, piece behind piece, in an output that has room for them.
-use crate::bodies::WIDTH;
+use crate::limits::WIDTH;
 ghost use mathlib.Core.Path.{_≡_};
-ghost use mathlib.Core.List.{_∷_, _++_};
+ghost use mathlib.Core.Bool.{true};
+ghost use mathlib.Core.List.{_∷_};
 ghost use Prim.Native.Nat.{_+_, _≤_};
-ghost use lib.ListN.{length, drop};
+ghost use lib.ListN.{length};
 ghost use Rattle.octets.specs.Number.{octets16};
-ghost use Rattle.octets.specs.Write.{put, putEnd, Wrote};
+ghost use Rattle.octets.specs.Write.{over, put, putEnd};
 ghost use Rattle.message.specs.Limits.{header, most8, most16};
 ghost use Rattle.message.specs.Message as M;
-ghost use Rattle.message.specs.Write.{Fits};
+ghost use Rattle.message.specs.Write.{accepts, front, writing};
 
 // The type and the length of a body.
 fn put_header(message_type: u8, body_length: u16, out: &mut [u8]) -> usize
     requires { ⌜ header ≤ length (now out) ⌝ }
-    ensures { λ r. ⌜ Wrote (now (out .entry)) («message_type» ∷ octets16 «body_length») (now (out .exit)) r ⌝ }
+    ensures { λ r. ⌜ (r ≡ header) × (now (out .exit) ≡ over (now (out .entry)) 0 («message_type» ∷ octets16 «body_length»)) ⌝ }
 {
     let at = octets::put_octet(out, 0, message_type);
     octets::put_number16(out, at, body_length)
@@ -48,8 +49,8 @@ fn put_vector16(field: &[u8], at: usize, out: &mut [u8]) -> usize
 }
 
 pub fn supported_profiles(version: u8, list: &[u8], out: &mut [u8])
-    requires { ⌜ Fits (M.supportedProfiles version (now list)) (length (now out)) ⌝ }
-    ensures { λ _. ⌜ now (out .exit) ≡ M.encode (M.supportedProfiles version (now (list .entry))) ++ drop (length (M.encode (M.supportedProfiles version (now (list .entry))))) (now (out .entry)) ⌝ }
+    requires { ⌜ accepts (writing (M.supportedProfiles version (now list)) (length (now out))) ≡ true ⌝ }
+    ensures { λ _. ⌜ now (out .exit) ≡ front (M.supportedProfiles version (now (list .entry))) (now (out .entry)) ⌝ }
 {
     let n = (3 + list.len()) as u16;
     let a = put_header(1, n, out);
@@ -58,15 +59,15 @@ pub fn supported_profiles(version: u8, list: &[u8], out: &mut [u8])
 }
 
 pub fn unsupported_version(version: u8, out: &mut [u8])
-    requires { ⌜ Fits (M.unsupportedVersion version) (length (now out)) ⌝ }
-    ensures { λ _. ⌜ now (out .exit) ≡ M.encode (M.unsupportedVersion version) ++ drop (length (M.encode (M.unsupportedVersion version))) (now (out .entry)) ⌝ }
+    requires { ⌜ accepts (writing (M.unsupportedVersion version) (length (now out))) ≡ true ⌝ }
+    ensures { λ _. ⌜ now (out .exit) ≡ front (M.unsupportedVersion version) (now (out .entry)) ⌝ }
 {
     let a = put_header(2, 1, out);
     octets::put_octet(out, a, version);
 }
 
 pub fn media_keys(
-    id: &[u8],
+    identifier: &[u8],
     profile: u16,
     mki: &[u8],
     client_key: &[u8],
@@ -75,8 +76,8 @@ pub fn media_keys(
     server_salt: &[u8],
     out: &mut [u8],
 )
-    requires { ⌜ Fits (M.mediaKeys (now id) profile (now mki) (now «client_key») (now «server_key») (now «client_salt») (now «server_salt»)) (length (now out)) ⌝ }
-    ensures { λ _. ⌜ now (out .exit) ≡ M.encode (M.mediaKeys (now (id .entry)) profile (now (mki .entry)) (now («client_key» .entry)) (now («server_key» .entry)) (now («client_salt» .entry)) (now («server_salt» .entry))) ++ drop (length (M.encode (M.mediaKeys (now (id .entry)) profile (now (mki .entry)) (now («client_key» .entry)) (now («server_key» .entry)) (now («client_salt» .entry)) (now («server_salt» .entry))))) (now (out .entry)) ⌝ }
+    requires { ⌜ accepts (writing (M.mediaKeys (now identifier) profile (now mki) (now «client_key») (now «server_key») (now «client_salt») (now «server_salt»)) (length (now out))) ≡ true ⌝ }
+    ensures { λ _. ⌜ now (out .exit) ≡ front (M.mediaKeys (now (identifier .entry)) profile (now (mki .entry)) (now («client_key» .entry)) (now («server_key» .entry)) (now («client_salt» .entry)) (now («server_salt» .entry))) (now (out .entry)) ⌝ }
 {
     let n = WIDTH
         + 7
@@ -86,7 +87,7 @@ pub fn media_keys(
         + client_salt.len()
         + server_salt.len();
     let a = put_header(3, n as u16, out);
-    let b = octets::put_octets(out, a, id);
+    let b = octets::put_octets(out, a, identifier);
     let c = octets::put_number16(out, b, profile);
     let d = put_vector8(mki, c, out);
     let e = put_vector8(client_key, d, out);
@@ -95,20 +96,20 @@ pub fn media_keys(
     put_vector8(server_salt, g, out);
 }
 
-pub fn tunneled_dtls(id: &[u8], dtls: &[u8], out: &mut [u8])
-    requires { ⌜ Fits (M.tunneledDtls (now id) (now dtls)) (length (now out)) ⌝ }
-    ensures { λ _. ⌜ now (out .exit) ≡ M.encode (M.tunneledDtls (now (id .entry)) (now (dtls .entry))) ++ drop (length (M.encode (M.tunneledDtls (now (id .entry)) (now (dtls .entry))))) (now (out .entry)) ⌝ }
+pub fn tunneled_dtls(identifier: &[u8], dtls: &[u8], out: &mut [u8])
+    requires { ⌜ accepts (writing (M.tunneledDtls (now identifier) (now dtls)) (length (now out))) ≡ true ⌝ }
+    ensures { λ _. ⌜ now (out .exit) ≡ front (M.tunneledDtls (now (identifier .entry)) (now (dtls .entry))) (now (out .entry)) ⌝ }
 {
     let n = (WIDTH + 2 + dtls.len()) as u16;
     let a = put_header(4, n, out);
-    let b = octets::put_octets(out, a, id);
+    let b = octets::put_octets(out, a, identifier);
     put_vector16(dtls, b, out);
 }
 
-pub fn endpoint_disconnect(id: &[u8], out: &mut [u8])
-    requires { ⌜ Fits (M.endpointDisconnect (now id)) (length (now out)) ⌝ }
-    ensures { λ _. ⌜ now (out .exit) ≡ M.encode (M.endpointDisconnect (now (id .entry))) ++ drop (length (M.encode (M.endpointDisconnect (now (id .entry))))) (now (out .entry)) ⌝ }
+pub fn endpoint_disconnect(identifier: &[u8], out: &mut [u8])
+    requires { ⌜ accepts (writing (M.endpointDisconnect (now identifier)) (length (now out))) ≡ true ⌝ }
+    ensures { λ _. ⌜ now (out .exit) ≡ front (M.endpointDisconnect (now (identifier .entry))) (now (out .entry)) ⌝ }
 {
     let a = put_header(5, WIDTH as u16, out);
-    octets::put_octets(out, a, id);
+    octets::put_octets(out, a, identifier);
 }

@@ -1,11 +1,12 @@
 // Messages written from their fields at the front of an output.
-use crate::bodies::WIDTH;
-use crate::framing::BODY_LIMIT;
-use crate::framing::HEADER;
+use crate::limits::BODY_LIMIT;
+use crate::limits::HEADER;
+use crate::limits::MOST_8;
+use crate::limits::MOST_16;
+use crate::limits::WIDTH;
 use crate::putting;
 ghost use mathlib.Core.Path.{_≡_};
 ghost use Prim.Native.Nat.{_+_};
-ghost use lib.ListN.{length};
 ghost use Rattle.message.specs.Limits.{header};
 ghost use Rattle.message.specs.Message as M;
 ghost use Rattle.message.specs.Write as Spec;
@@ -21,11 +22,6 @@ pub enum Write {
     NoRoom,
     Written { count: usize },
 }
-
-// The longest field that one, and that two length octets can tell.
-const MOST_8: usize = 255;
-
-const MOST_16: usize = 65535;
 
 // Refusals 2 and 13, or the message's length.
 fn fit(body_length: usize, room: usize) -> Write
@@ -64,9 +60,9 @@ fn fit_supported_profiles(version: u8, list: &[u8], room: usize) -> Write
     }
 }
 
-// SupportedProfiles.
+// SupportedProfiles: refusals 5; 2; 13.
 pub fn write_supported_profiles(version: u8, list: &[u8], out: &mut [u8]) -> Write
-    ensures { λ r. ⌜ (Spec.verdictOf r ≡ Spec.writing (M.supportedProfiles version (now (list .entry))) (length (now (out .entry)))) × (now (out .exit) ≡ Spec.output (M.supportedProfiles version (now (list .entry))) (now (out .entry))) ⌝ }
+    ensures { λ r. ⌜ Spec.Writes (M.supportedProfiles version (now (list .entry))) (now (out .entry)) (now (out .exit)) (Spec.verdictOf r) ⌝ }
 {
     let answer = fit_supported_profiles(version, list, out.len());
     if accepted(answer) {
@@ -81,9 +77,9 @@ fn fit_unsupported_version(version: u8, room: usize) -> Write
     fit(1, room)
 }
 
-// UnsupportedVersion.
+// UnsupportedVersion: refusals 13.
 pub fn write_unsupported_version(version: u8, out: &mut [u8]) -> Write
-    ensures { λ r. ⌜ (Spec.verdictOf r ≡ Spec.writing (M.unsupportedVersion version) (length (now (out .entry)))) × (now (out .exit) ≡ Spec.output (M.unsupportedVersion version) (now (out .entry))) ⌝ }
+    ensures { λ r. ⌜ Spec.Writes (M.unsupportedVersion version) (now (out .entry)) (now (out .exit)) (Spec.verdictOf r) ⌝ }
 {
     let answer = fit_unsupported_version(version, out.len());
     if accepted(answer) {
@@ -93,7 +89,7 @@ pub fn write_unsupported_version(version: u8, out: &mut [u8]) -> Write
 }
 
 fn fit_media_keys(
-    id: &[u8],
+    identifier: &[u8],
     profile: u16,
     mki: &[u8],
     client_key: &[u8],
@@ -102,9 +98,9 @@ fn fit_media_keys(
     server_salt: &[u8],
     room: usize,
 ) -> Write
-    ensures { λ r. ⌜ Spec.verdictOf r ≡ Spec.writing (M.mediaKeys (now (id .entry)) profile (now (mki .entry)) (now («client_key» .entry)) (now («server_key» .entry)) (now («client_salt» .entry)) (now («server_salt» .entry))) room ⌝ }
+    ensures { λ r. ⌜ Spec.verdictOf r ≡ Spec.writing (M.mediaKeys (now (identifier .entry)) profile (now (mki .entry)) (now («client_key» .entry)) (now («server_key» .entry)) (now («client_salt» .entry)) (now («server_salt» .entry))) room ⌝ }
 {
-    if id.len() != WIDTH {
+    if identifier.len() != WIDTH {
         return Write::IdentifierLength;
     }
     if octets::within(0, MOST_8, mki.len())
@@ -121,9 +117,9 @@ fn fit_media_keys(
     }
 }
 
-// MediaKeys.
+// MediaKeys: refusals 20; 5; 2; 13.
 pub fn write_media_keys(
-    id: &[u8],
+    identifier: &[u8],
     profile: u16,
     mki: &[u8],
     client_key: &[u8],
@@ -132,10 +128,10 @@ pub fn write_media_keys(
     server_salt: &[u8],
     out: &mut [u8],
 ) -> Write
-    ensures { λ r. ⌜ (Spec.verdictOf r ≡ Spec.writing (M.mediaKeys (now (id .entry)) profile (now (mki .entry)) (now («client_key» .entry)) (now («server_key» .entry)) (now («client_salt» .entry)) (now («server_salt» .entry))) (length (now (out .entry)))) × (now (out .exit) ≡ Spec.output (M.mediaKeys (now (id .entry)) profile (now (mki .entry)) (now («client_key» .entry)) (now («server_key» .entry)) (now («client_salt» .entry)) (now («server_salt» .entry))) (now (out .entry))) ⌝ }
+    ensures { λ r. ⌜ Spec.Writes (M.mediaKeys (now (identifier .entry)) profile (now (mki .entry)) (now («client_key» .entry)) (now («server_key» .entry)) (now («client_salt» .entry)) (now («server_salt» .entry))) (now (out .entry)) (now (out .exit)) (Spec.verdictOf r) ⌝ }
 {
     let answer = fit_media_keys(
-        id,
+        identifier,
         profile,
         mki,
         client_key,
@@ -146,7 +142,7 @@ pub fn write_media_keys(
     );
     if accepted(answer) {
         putting::media_keys(
-            id,
+            identifier,
             profile,
             mki,
             client_key,
@@ -159,10 +155,10 @@ pub fn write_media_keys(
     answer
 }
 
-fn fit_tunneled_dtls(id: &[u8], dtls: &[u8], room: usize) -> Write
-    ensures { λ r. ⌜ Spec.verdictOf r ≡ Spec.writing (M.tunneledDtls (now (id .entry)) (now (dtls .entry))) room ⌝ }
+fn fit_tunneled_dtls(identifier: &[u8], dtls: &[u8], room: usize) -> Write
+    ensures { λ r. ⌜ Spec.verdictOf r ≡ Spec.writing (M.tunneledDtls (now (identifier .entry)) (now (dtls .entry))) room ⌝ }
 {
-    if id.len() != WIDTH {
+    if identifier.len() != WIDTH {
         return Write::IdentifierLength;
     }
     if octets::within(1, MOST_16, dtls.len()) {
@@ -172,33 +168,33 @@ fn fit_tunneled_dtls(id: &[u8], dtls: &[u8], room: usize) -> Write
     }
 }
 
-// TunneledDtls.
-pub fn write_tunneled_dtls(id: &[u8], dtls: &[u8], out: &mut [u8]) -> Write
-    ensures { λ r. ⌜ (Spec.verdictOf r ≡ Spec.writing (M.tunneledDtls (now (id .entry)) (now (dtls .entry))) (length (now (out .entry)))) × (now (out .exit) ≡ Spec.output (M.tunneledDtls (now (id .entry)) (now (dtls .entry))) (now (out .entry))) ⌝ }
+// TunneledDtls: refusals 20; 5; 2; 13.
+pub fn write_tunneled_dtls(identifier: &[u8], dtls: &[u8], out: &mut [u8]) -> Write
+    ensures { λ r. ⌜ Spec.Writes (M.tunneledDtls (now (identifier .entry)) (now (dtls .entry))) (now (out .entry)) (now (out .exit)) (Spec.verdictOf r) ⌝ }
 {
-    let answer = fit_tunneled_dtls(id, dtls, out.len());
+    let answer = fit_tunneled_dtls(identifier, dtls, out.len());
     if accepted(answer) {
-        putting::tunneled_dtls(id, dtls, out);
+        putting::tunneled_dtls(identifier, dtls, out);
     }
     answer
 }
 
-fn fit_endpoint_disconnect(id: &[u8], room: usize) -> Write
-    ensures { λ r. ⌜ Spec.verdictOf r ≡ Spec.writing (M.endpointDisconnect (now (id .entry))) room ⌝ }
+fn fit_endpoint_disconnect(identifier: &[u8], room: usize) -> Write
+    ensures { λ r. ⌜ Spec.verdictOf r ≡ Spec.writing (M.endpointDisconnect (now (identifier .entry))) room ⌝ }
 {
-    if id.len() != WIDTH {
+    if identifier.len() != WIDTH {
         return Write::IdentifierLength;
     }
     fit(WIDTH, room)
 }
 
-// EndpointDisconnect.
-pub fn write_endpoint_disconnect(id: &[u8], out: &mut [u8]) -> Write
-    ensures { λ r. ⌜ (Spec.verdictOf r ≡ Spec.writing (M.endpointDisconnect (now (id .entry))) (length (now (out .entry)))) × (now (out .exit) ≡ Spec.output (M.endpointDisconnect (now (id .entry))) (now (out .entry))) ⌝ }
+// EndpointDisconnect: refusals 20; 13.
+pub fn write_endpoint_disconnect(identifier: &[u8], out: &mut [u8]) -> Write
+    ensures { λ r. ⌜ Spec.Writes (M.endpointDisconnect (now (identifier .entry))) (now (out .entry)) (now (out .exit)) (Spec.verdictOf r) ⌝ }
 {
-    let answer = fit_endpoint_disconnect(id, out.len());
+    let answer = fit_endpoint_disconnect(identifier, out.len());
     if accepted(answer) {
-        putting::endpoint_disconnect(id, out);
+        putting::endpoint_disconnect(identifier, out);
     }
     answer
 }

@@ -7,7 +7,7 @@ use native.Mathlib.Nat.{add-assoc}
 use borrow.Author.Tests.{le-leb, lt-leb}
 use lib.ListN.{length, take, drop, length-append, length-take, length-drop}
 use lib.Seq.{take-append-seam, take-at, drop-append-add, drop-drop}
-use Rattle.octets.specs.Write.{over, put, putEnd, Wrote}
+use Rattle.octets.specs.Write.{over, put, putEnd}
 
 -- ---- one piece
 
@@ -63,6 +63,11 @@ put-put l q r at {x} {y} {k} {e} h a b c d =
     )
 
 -- ---- piece behind piece, from the front
+
+-- the octets p stand at the front of the output l, which is now x, and at is the place behind them
+pub record Wrote (l p x : List ℕ) (at : ℕ) : Type 0 where
+  pub output : x ≡ p ++ drop (length p) l
+  pub place : at ≡ length p
 
 pub wrote-none : (l : List ℕ) → Wrote l [] l 0
 wrote-none l = record { output = refl; place = refl }

@@ -1,6 +1,5 @@
 -- A piece written at a place of an output.
 use Prim.Native.Nat.{ℕ, _+_}
-use mathlib.Core.Path.{_≡_}
 use mathlib.Core.Bool.{Bool, cond}
 use mathlib.Core.List.{List, _++_}
 use lib.ListN.{length, take, drop}
@@ -21,8 +20,3 @@ put l at q = cond (fits l at q) (over l at q) l
 -- the place behind the piece, or the same place where nothing was written
 unfoldable pub putEnd : List ℕ → ℕ → List ℕ → ℕ
 putEnd l at q = cond (fits l at q) (at + length q) at
-
--- the octets p stand at the front of the output l, which is now x, and at is the place behind them
-pub record Wrote (l p x : List ℕ) (at : ℕ) : Type 0 where
-  pub output : x ≡ p ++ drop (length p) l
-  pub place : at ≡ length p

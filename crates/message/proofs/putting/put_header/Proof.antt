@@ -13,7 +13,8 @@ returns : tie.Need-returns
 returns c =
     let a = c .before .before .before .before .before .before .before .before .before .args in
     let w = wrote-more (a .message-type ∷ []) (wrote-none (now (a .out))) (omega (arith, c .before .before .before .before .before .before .before .before .before .pre)) (c .before .before .before .before .before .before .put-octet .ensures .0) (c .before .before .before .before .before .before .put-octet .ensures .1) in
-    wrote-more (octets16 (a .body-length)) w (omega (arith, c .before .before .before .before .before .before .before .before .before .pre)) (c .before .before .put-number16 .ensures .0) (c .before .before .put-number16 .ensures .1)
+    let v = wrote-more (octets16 (a .body-length)) w (omega (arith, c .before .before .before .before .before .before .before .before .before .pre)) (c .before .before .put-number16 .ensures .0) (c .before .before .put-number16 .ensures .1) in
+    (v .place, v .output)
 
 pub put-header-spec : {M : Type 1} → statement M
 put-header-spec = tie.close (tie.spec (λ c κs. search needs) (λ c κs. search needs) (λ c. search needs) returns)

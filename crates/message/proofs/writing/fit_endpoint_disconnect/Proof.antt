@@ -12,12 +12,12 @@ use Rattle.message.proofs.writing.fit_endpoint_disconnect.Tie as tie
 returns : tie.Need-returns
 returns c =
     let a = c .before .before .args in
-    writing-20 (M.endpointDisconnect (now (a .id))) (a .room) (ne-eqb _ _ (c .if1 .taken))
+    writing-20 (M.endpointDisconnect (now (a .identifier))) (a .room) (ne-eqb _ _ (c .if1 .taken))
 
 returns-2 : tie.Need-returns-2
 returns-2 c =
     let a = c .before .before .before .args in
-    c .fit .ensures ∙ writing-fits (M.endpointDisconnect (now (a .id))) (a .room) width (eq-eqb _ _ (c .before .if1 .left)) refl (c .before .if1 .left)
+    c .fit .ensures ∙ writing-fits (M.endpointDisconnect (now (a .identifier))) (a .room) width (eq-eqb _ _ (c .before .if1 .left)) refl (c .before .if1 .left)
 
 pub fit-endpoint-disconnect-spec : {M : Type 1} → statement M
 fit-endpoint-disconnect-spec = tie.close (tie.spec returns (λ c κs. search needs) returns-2)

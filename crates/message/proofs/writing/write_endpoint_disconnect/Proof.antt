@@ -2,8 +2,7 @@ use mathlib.Core.Path.{sym, ap, _∙_}
 use denote.Ref.{now}
 use Rattle.message.specs.Write as Spec
 use Rattle.message.specs.Message as M
-use lib.ListN.{length}
-use Rattle.message.proofs.VerdictLaws.{accepted-fits, output-written, output-refused}
+use Rattle.message.proofs.VerdictLaws.{output-written, output-refused}
 use borrow.Author.Needs.{needs}
 use Rattle.message.proofs.writing.write_endpoint_disconnect.Statement.{statement}
 use Rattle.message.proofs.writing.write_endpoint_disconnect.Tie as tie
@@ -11,17 +10,17 @@ use Rattle.message.proofs.writing.write_endpoint_disconnect.Tie as tie
 endpoint-disconnect-requires : tie.Need-endpoint-disconnect-requires
 endpoint-disconnect-requires c κs =
     let a = c .before .before .before .before .before .before .args in
-    accepted-fits (M.endpointDisconnect (now (a .id))) (length (now (a .out))) (sym (ap Spec.accepts (c .before .before .before .fit-endpoint-disconnect .ensures)) ∙ sym (c .before .before .accepted .ensures) ∙ c .before .if1 .taken)
+    sym (ap Spec.accepts (c .before .before .before .fit-endpoint-disconnect .ensures)) ∙ sym (c .before .before .accepted .ensures) ∙ c .before .if1 .taken
 
 returns : tie.Need-returns
 returns c =
     let a = c .before .before .before .before .before .before .before .before .before .args in
-    (c .before .before .before .before .before .before .fit-endpoint-disconnect .ensures, c .before .before .endpoint-disconnect .ensures ∙ output-written (M.endpointDisconnect (now (a .id))) (now (a .out)) (sym (ap Spec.accepts (c .before .before .before .before .before .before .fit-endpoint-disconnect .ensures)) ∙ sym (c .before .before .before .before .before .accepted .ensures) ∙ c .before .before .before .before .if1 .taken))
+    (c .before .before .before .before .before .before .fit-endpoint-disconnect .ensures, c .before .before .endpoint-disconnect .ensures ∙ output-written (M.endpointDisconnect (now (a .identifier))) (now (a .out)) (sym (ap Spec.accepts (c .before .before .before .before .before .before .fit-endpoint-disconnect .ensures)) ∙ sym (c .before .before .before .before .before .accepted .ensures) ∙ c .before .before .before .before .if1 .taken))
 
 returns-2 : tie.Need-returns-2
 returns-2 c =
     let a = c .before .before .before .before .before .args in
-    (c .before .before .fit-endpoint-disconnect .ensures, output-refused (M.endpointDisconnect (now (a .id))) (now (a .out)) (sym (ap Spec.accepts (c .before .before .fit-endpoint-disconnect .ensures)) ∙ sym (c .before .accepted .ensures) ∙ c .if1 .left))
+    (c .before .before .fit-endpoint-disconnect .ensures, output-refused (M.endpointDisconnect (now (a .identifier))) (now (a .out)) (sym (ap Spec.accepts (c .before .before .fit-endpoint-disconnect .ensures)) ∙ sym (c .before .accepted .ensures) ∙ c .if1 .left))
 
 pub write-endpoint-disconnect-spec : {M : Type 1} → statement M
 write-endpoint-disconnect-spec =

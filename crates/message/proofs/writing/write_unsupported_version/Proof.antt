@@ -2,8 +2,7 @@ use mathlib.Core.Path.{sym, ap, _∙_}
 use denote.Ref.{now}
 use Rattle.message.specs.Write as Spec
 use Rattle.message.specs.Message as M
-use lib.ListN.{length}
-use Rattle.message.proofs.VerdictLaws.{accepted-fits, output-written, output-refused}
+use Rattle.message.proofs.VerdictLaws.{output-written, output-refused}
 use borrow.Author.Needs.{needs}
 use Rattle.message.proofs.writing.write_unsupported_version.Statement.{statement}
 use Rattle.message.proofs.writing.write_unsupported_version.Tie as tie
@@ -11,7 +10,7 @@ use Rattle.message.proofs.writing.write_unsupported_version.Tie as tie
 unsupported-version-requires : tie.Need-unsupported-version-requires
 unsupported-version-requires c κs =
     let a = c .before .before .before .before .before .args in
-    accepted-fits (M.unsupportedVersion (a .version)) (length (now (a .out))) (sym (ap Spec.accepts (c .before .before .before .fit-unsupported-version .ensures)) ∙ sym (c .before .before .accepted .ensures) ∙ c .before .if1 .taken)
+    sym (ap Spec.accepts (c .before .before .before .fit-unsupported-version .ensures)) ∙ sym (c .before .before .accepted .ensures) ∙ c .before .if1 .taken
 
 returns : tie.Need-returns
 returns c =

@@ -1,0 +1,22 @@
+// The widths and limits of tunnel messages.
+
+// A, the width of an association identifier.
+pub const WIDTH: usize = 16;
+
+// The longest body, read or written.
+pub const BODY_LIMIT: u16 = 4096;
+
+// What stands before a body: type 1, length 2.
+pub const HEADER: usize = 3;
+
+// The longest field that one length octet can tell.
+pub const MOST_8: usize = 255;
+
+// The longest field that two length octets can tell.
+pub const MOST_16: usize = 65535;
+
+// The longest MKI that a table keeps.
+pub const MKI_LIMIT: u8 = 16;
+
+// The longest salt that a table keeps.
+pub const SALT_LIMIT: u8 = 32;
