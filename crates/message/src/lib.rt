@@ -28,6 +28,7 @@ pub use places::Places;
 pub use places::body;
 pub use places::dtls;
 pub use places::field_of;
+pub use places::key_places;
 pub use places::place_of;
 pub use places::places_of;
 pub use profiles::good_list;

@@ -62,7 +62,8 @@ const IDENTIFIER: Bounds = Bounds {
     end: HEADER + WIDTH,
 };
 
-fn key_places(k: KeyLengths) -> KeyPlaces
+// Where the key fields of a MediaKeys with these lengths stand.
+pub fn key_places(k: KeyLengths) -> KeyPlaces
     ensures { λ r. ⌜ r ≡ Spec.keyPlaces k ⌝ }
 {
     let a = HEADER + WIDTH + 3;

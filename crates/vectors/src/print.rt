@@ -2,7 +2,7 @@
 use libc::STDOUT_FILENO;
 
 // The longest part whose octets are written out; of a longer one a reader wants the length.
-const WRITTEN_OUT: usize = 8;
+const WRITTEN_OUT: usize = 64;
 
 pub fn text(s: &[u8]) {
     io::write_all(STDOUT_FILENO, s);
@@ -40,16 +40,45 @@ pub fn octet_row(s: &[u8]) {
     }
 }
 
-pub fn part(name: &[u8], s: &[u8]) {
+pub fn bracketed(s: &[u8]) {
+    text(b"[");
+    octet_row(s);
+    text(b"]");
+}
+
+// What a number or a part stands behind.
+fn named(name: &[u8]) {
     text(b" ");
     text(name);
     text(b"=");
+}
+
+// A number behind a space.
+pub fn number(n: usize) {
+    text(b" ");
+    decimal(n as u64);
+}
+
+pub fn count(name: &[u8], n: usize) {
+    named(name);
+    decimal(n as u64);
+}
+
+pub fn part(name: &[u8], s: &[u8]) {
+    named(name);
     if s.len() <= WRITTEN_OUT {
-        text(b"[");
-        octet_row(s);
-        text(b"]");
+        bracketed(s);
     } else {
         decimal(s.len() as u64);
         text(b" octets");
+    }
+}
+
+// The end of a line.
+pub fn yes_or_no(answer: bool) {
+    if answer {
+        text(b": yes\n");
+    } else {
+        text(b": no\n");
     }
 }
