@@ -1,0 +1,131 @@
+-- Laws of tunnel octets: refusal 4 by the front of the octets, and what each way through a call comes to.
+use Prim.Native.Nat.{ℕ, _<_, _≤_}
+use mathlib.Core.Path.{_≡_, refl, sym, ap, _∙_}
+use mathlib.Core.Bool.{true, false}
+use mathlib.Core.List.{List}
+use native.Mathlib.Omega.{arith}
+use borrow.Author.Tests.{lt-ltb, le-ltb}
+use lib.Dec.{ltb}
+use Rattle.octets.specs.Bounds.{partIn}
+use Rattle.message.specs.Parts.{identifierPlace, dtlsPlace}
+use Rattle.message.specs.Frame as Frame
+use Rattle.message.specs.Read as Read
+use Rattle.message.specs.declared.framing.Kind.{Kind}
+use Rattle.message.specs.declared.bodies.Fields.{Fields}
+use Rattle.message.specs.declared.bodies.Fields.the-variants.{MediaKeys, TunneledDtls, EndpointDisconnect}
+use Rattle.message.specs.declared.bodies.KeyLengths.{KeyLengths}
+use Rattle.distributor.specs.Limits.{places}
+use Rattle.distributor.specs.Keys.{keysIn}
+use Rattle.distributor.specs.Layout.{up, rowOf, endpointOf, keyedRow, withRow, vacantRow}
+use Rattle.distributor.specs.Verdict.{allowed, refusal}
+use Rattle.distributor.specs.Answer.{Answer, refused, keysStored, delivery, removed}
+use Rattle.distributor.specs.Refusals.{received, receiving}
+use Rattle.distributor.specs.Outcomes.{profilesIn}
+use Rattle.distributor.specs.Table.{placeOfIdentifier, knows, keysVerdict, fieldsAnswer, fieldsNext, readAnswer, readNext, octetsAnswer, octetsNext}
+
+-- ---- refusal 4 is the only one that is not the reading's
+
+received-read : (s : List ℕ) (f : Frame.Framing) → profilesIn f ≡ 0 → received s f ≡ Read.frameAnswer s f
+received-read s Frame.moreNeeded h = refl
+received-read s (Frame.refused number taken) h = refl
+received-read s (Frame.version number) h = refl
+received-read s (Frame.whole Kind.SupportedProfiles n) h = absurd (omega (arith, h))
+received-read s (Frame.whole Kind.UnsupportedVersion n) h = refl
+received-read s (Frame.whole Kind.MediaKeys n) h = refl
+received-read s (Frame.whole Kind.TunneledDtls n) h = refl
+received-read s (Frame.whole Kind.EndpointDisconnect n) h = refl
+received-read s (Frame.whole Kind.Unlisted n) h = refl
+
+received-profiles : (s : List ℕ) (f : Frame.Framing) → (profilesIn f ≡ 0 → ⊥) → received s f ≡ Read.refused 4 (profilesIn f)
+received-profiles s Frame.moreNeeded h = absurd (h refl)
+received-profiles s (Frame.refused number taken) h = absurd (h refl)
+received-profiles s (Frame.version number) h = absurd (h refl)
+received-profiles s (Frame.whole Kind.SupportedProfiles n) h = refl
+received-profiles s (Frame.whole Kind.UnsupportedVersion n) h = absurd (h refl)
+received-profiles s (Frame.whole Kind.MediaKeys n) h = absurd (h refl)
+received-profiles s (Frame.whole Kind.TunneledDtls n) h = absurd (h refl)
+received-profiles s (Frame.whole Kind.EndpointDisconnect n) h = absurd (h refl)
+received-profiles s (Frame.whole Kind.Unlisted n) h = absurd (h refl)
+
+-- ---- an answer with the block afterwards
+
+module _ (s octets : List ℕ) where
+  abbrev pub Fielded : (taken : ℕ) → Fields → Answer → List ℕ → Type 0
+  Fielded taken f a next = (a ≡ fieldsAnswer s octets f taken) × (next ≡ fieldsNext s octets f)
+
+  abbrev pub Reads : Read.Answer → Answer → List ℕ → Type 0
+  Reads r a next = (a ≡ readAnswer s octets r) × (next ≡ readNext s octets r)
+
+  abbrev pub Receives : Answer → List ℕ → Type 0
+  Receives a next = (a ≡ octetsAnswer s octets) × (next ≡ octetsNext s octets)
+
+module _ (s octets : List ℕ) {a : Answer} {next : List ℕ} where
+  pub of-fields : (taken : ℕ) {f g : Fields} → f ≡ g → Fielded s octets taken g a next → Fielded s octets taken f a next
+  of-fields taken e h =
+      (h .0 ∙ ap (λ (x : Fields). fieldsAnswer s octets x taken) (sym e), h .1 ∙ ap (λ (x : Fields). fieldsNext s octets x) (sym e))
+
+  pub of-reading : {r q : Read.Answer} → r ≡ q → Reads s octets r a next → Reads s octets q a next
+  of-reading e h =
+      (h .0 ∙ ap (λ (x : Read.Answer). readAnswer s octets x) e, h .1 ∙ ap (λ (x : Read.Answer). readNext s octets x) e)
+
+  pub of-receiving : up s ≡ true → (r : Read.Answer) → receiving octets ≡ r → Reads s octets r a next → Receives s octets a next
+  unfolding octetsAnswer octetsNext
+  of-receiving u r e h = rw (u, e) h
+
+-- ---- by refusals 1 and 4
+
+module _ (s octets : List ℕ) where
+  pub receives-down : up s ≡ false → Receives s octets (refused 1 0) s
+  unfolding octetsAnswer octetsNext
+  receives-down u = (rw u, rw u)
+
+  pub receives-profiles : up s ≡ true → (profilesIn (Frame.frame octets) ≡ 0 → ⊥) → Receives s octets (refused 4 (profilesIn (Frame.frame octets))) s
+  unfolding receiving
+  receives-profiles u h = of-receiving s octets u (Read.refused 4 (profilesIn (Frame.frame octets))) (received-profiles octets (Frame.frame octets) h) (refl, refl)
+
+  pub receives-reading : up s ≡ true → profilesIn (Frame.frame octets) ≡ 0 → {a : Answer} {next : List ℕ}
+      → Reads s octets (Read.reading octets) a next → Receives s octets a next
+  unfolding receiving Read.reading
+  receives-reading u h g = of-receiving s octets u (Read.frameAnswer octets (Frame.frame octets)) (received-read octets (Frame.frame octets) h) g
+
+-- ---- by the place of the identifier
+
+module _ (s octets : List ℕ) (taken place : ℕ) (p : place ≡ placeOfIdentifier s (partIn octets identifierPlace)) where
+  there : place < places → knows s (partIn octets identifierPlace) ≡ true
+  there h = ap (λ (n : ℕ). ltb n places) (sym p) ∙ lt-ltb place places h
+
+  not-there : places ≤ place → knows s (partIn octets identifierPlace) ≡ false
+  not-there h = ap (λ (n : ℕ). ltb n places) (sym p) ∙ le-ltb place places h
+
+  pub delivered : (n endpoint : ℕ) → place < places → endpoint ≡ endpointOf (rowOf s place)
+      → delivery endpoint (dtlsPlace n) taken ≡ fieldsAnswer s octets (TunneledDtls n) taken
+  unfolding fieldsAnswer
+  delivered n endpoint h e =
+      rw (there h) (ap (λ (x : ℕ). delivery x (dtlsPlace n) taken) (e ∙ ap (λ (x : ℕ). endpointOf (rowOf s x)) p))
+
+  pub not-delivered : (n : ℕ) → places ≤ place → refused 6 taken ≡ fieldsAnswer s octets (TunneledDtls n) taken
+  unfolding fieldsAnswer
+  not-delivered n h = rw (not-there h)
+
+  pub disconnected : place < places → {next : List ℕ} → next ≡ withRow s place vacantRow → Fielded s octets taken EndpointDisconnect (removed taken) next
+  unfolding fieldsAnswer fieldsNext
+  disconnected h e = (rw (there h), rw (there h) (e ∙ ap (λ (x : ℕ). withRow s x vacantRow) p))
+
+  pub not-disconnected : places ≤ place → Fielded s octets taken EndpointDisconnect (refused 6 taken) s
+  unfolding fieldsAnswer fieldsNext
+  not-disconnected h = (rw (not-there h), rw (not-there h))
+
+-- ---- keys, by their verdict
+
+module _ (s octets : List ℕ) (taken profile : ℕ) (k : KeyLengths) where
+  pub keyed : (place : ℕ) → place ≡ placeOfIdentifier s (partIn octets identifierPlace)
+      → allowed ≡ keysVerdict s (partIn octets identifierPlace) profile k
+      → {next : List ℕ} → next ≡ withRow s place (keyedRow (keysIn octets profile k) (rowOf s place))
+      → Fielded s octets taken (MediaKeys profile k) (keysStored taken) next
+  unfolding fieldsAnswer fieldsNext
+  keyed place p v e = rw (← v) (refl, e ∙ ap (λ (x : ℕ). withRow s x (keyedRow (keysIn octets profile k) (rowOf s x))) p)
+
+  pub not-keyed : (number : ℕ) → refusal number ≡ keysVerdict s (partIn octets identifierPlace) profile k
+      → Fielded s octets taken (MediaKeys profile k) (refused number taken) s
+  unfolding fieldsAnswer fieldsNext
+  not-keyed number v = rw (← v) (refl, refl)

@@ -1,0 +1,37 @@
+use denote.Ref.{now}
+use Rattle.distributor.proofs.Sendable.{close-place, close-done, close-refused}
+use borrow.Author.Needs.{needs}
+use Rattle.distributor.proofs.closing.close_in.Statement.{statement}
+use Rattle.distributor.proofs.closing.close_in.Tie as tie
+
+put-vacant-requires : tie.Need-put-vacant-requires
+put-vacant-requires c κs =
+    let a = c .before .before .before .before .before .before .before .before .before .before .before .before .before .before .args in
+    (c .before .before .before .before .before .before .before .before .before .before .before .before .before .before .pre, close-place (now (a .state)) (now (a .identifier)) (now (a .out)) (c .before .before .before .before .before .before .before .enum-told .given .1) (c .before .before .before .before .before .before .before .before .before .check-close .ensures) _ (c .before .place-of-identifier .ensures))
+
+returns : tie.Need-returns
+returns c =
+    let a = c .before .before .before .before .before .before .before .before .before .before .before .before .before .before .before .before .before .args in
+    close-done (now (a .state)) (now (a .identifier)) (now (a .out)) (c .before .before .before .before .before .before .before .before .before .before .enum-told .given .1) (c .before .before .before .before .before .before .before .before .before .before .before .before .check-close .ensures) _ (c .before .before .before .before .place-of-identifier .ensures) _ _ (c .before .before .before .before .before .before .before .before .write-endpoint-disconnect .ensures .1) (c .before .before .put-vacant .ensures)
+
+returns-2 : tie.Need-returns-2
+returns-2 c =
+    let a = c .before .before .before .before .before .before .before .before .args in
+    close-refused (now (a .state)) (now (a .identifier)) (now (a .out)) _ (c .before .number .given .1) (c .before .before .before .check-close .ensures)
+
+pub close-in-spec : {M : Type 1} → statement M
+close-in-spec =
+    tie.close
+    (tie.spec
+    (λ c κs. search needs)
+    (λ c. search needs)
+    (λ c κs. search needs)
+    (λ c κs. search needs)
+    put-vacant-requires
+    (λ c. search needs)
+    (λ c. search needs)
+    (λ c. search needs)
+    (λ c. search needs)
+    returns
+    (λ c. search needs)
+    returns-2)

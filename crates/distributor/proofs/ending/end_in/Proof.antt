@@ -1,0 +1,27 @@
+use mathlib.Core.Path.{_≡_, sym, _∙_}
+use denote.Ref.{now}
+use mathlib.Core.Bool.{true, false}
+use Rattle.distributor.specs.Layout as L
+use borrow.Author.Needs.{needs}
+use Rattle.distributor.specs.Table as Spec
+use Rattle.distributor.specs.Outcomes as Out
+use borrow.Author.Needs.{needs}
+use Rattle.distributor.proofs.ending.end_in.Statement.{statement}
+use Rattle.distributor.proofs.ending.end_in.Tie as tie
+
+returns : tie.Need-returns
+unfolding Spec.endAnswer Spec.endNext
+returns c =
+    let u : L.up (now (c .before .before .before .before .before .before .before .before .args .state)) ≡ true = sym (c .before .before .before .before .before .is-up .ensures) ∙ c .before .before .before .before .if1 .taken in
+    (rw u, c .before .before .put-down .ensures ∙ rw u)
+
+returns-2 : tie.Need-returns-2
+unfolding Spec.endAnswer Spec.endNext
+returns-2 c =
+    let u : L.up (now (c .before .before .before .before .args .state)) ≡ false = sym (c .before .is-up .ensures) ∙ c .if1 .left in
+    (rw u, rw u)
+
+pub end-in-spec : {M : Type 1} → statement M
+end-in-spec =
+    tie.close
+    (tie.spec (λ c κs. search needs) (λ c κs. search needs) (λ c. search needs) returns (λ c. search needs) returns-2)

@@ -1,0 +1,53 @@
+use mathlib.Core.Path.{_≡_, sym, ap, _∙_}
+use denote.Ref.{now}
+use borrow.Author.Tests.{lt-ltb, le-ltb, not-true, not-false}
+use mathlib.Core.Bool.{true, false}
+use Rattle.distributor.specs.Layout as L
+use borrow.Author.Needs.{needs}
+use Rattle.distributor.specs.Table as Spec
+use Rattle.distributor.specs.Record as R
+use Rattle.distributor.proofs.RecordReads.{record-read}
+use Rattle.distributor.proofs.RowsLaws.{Legal, row-length}
+use Rattle.distributor.specs.Answer.{found}
+use borrow.Author.Needs.{needs}
+use Rattle.distributor.proofs.looking.look_in.Statement.{statement}
+use Rattle.distributor.proofs.looking.look_in.Tie as tie
+
+returns : tie.Need-returns
+unfolding Spec.lookAnswer Spec.lookVerdict R.lookRecord
+returns c =
+    let u : L.up (now (c .before .before .before .before .args .state)) ≡ false = sym (c .before .before .is-up .ensures) ∙ not-true _ (c .before .if1 .taken) in
+    (rw u, c .no-record .ensures ∙ rw u)
+
+returns-2 : tie.Need-returns-2
+unfolding Spec.lookAnswer Spec.lookVerdict R.lookRecord
+returns-2 c =
+    let u : L.up (now (c .before .before .before .before .before .before .args .state)) ≡ true = sym (c .before .before .before .before .is-up .ensures) ∙ not-false _ (c .before .before .before .if1 .left) in
+    let p = le-ltb _ _ (c .before .if2 .taken) in
+    (rw (u, ← (c .before .before .place-of-endpoint .ensures), p), c .no-record2 .ensures ∙ rw (u, ← (c .before .before .place-of-endpoint .ensures), p))
+
+returns-3 : tie.Need-returns-3
+unfolding Spec.lookAnswer Spec.lookVerdict R.lookRecord
+returns-3 c =
+    let u : L.up (now (c .before .before .before .before .before .before .before .args .state)) ≡ true = sym (c .before .before .before .before .before .is-up .ensures) ∙ not-false _ (c .before .before .before .before .if1 .left) in
+    let s = now (c .before .before .before .before .before .before .before .args .state) in
+    let g : Legal s = record { size = c .before .before .before .before .before .before .before .pre } in
+    let h = c .before .before .if2 .left in
+    let p = lt-ltb _ _ h in
+    let row : c .record-of .result ≡ R.recordOf (L.rowOf s (c .before .before .before .place-of-endpoint .result)) = c .record-of .ensures ∙ ap R.recordOf (c .before .row-at .ensures) in
+    let read = record-read (L.rowOf s (c .before .before .before .place-of-endpoint .result)) (row-length s g (c .before .before .before .place-of-endpoint .result) h) in
+    (rw (row, u, ← (c .before .before .before .place-of-endpoint .ensures), p) (ap found read), rw (row, u, ← (c .before .before .before .place-of-endpoint .ensures), p))
+
+pub look-in-spec : {M : Type 1} → statement M
+look-in-spec =
+    tie.close
+    (tie.spec
+    (λ c κs. search needs)
+    (λ c κs. search needs)
+    returns
+    (λ c κs. search needs)
+    (λ c κs. search needs)
+    returns-2
+    (λ c κs. search needs)
+    (λ c κs. search needs)
+    returns-3)

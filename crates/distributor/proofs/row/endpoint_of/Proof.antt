@@ -1,0 +1,12 @@
+use Rattle.distributor.specs.Layout as L
+use borrow.Author.Needs.{needs}
+use borrow.Author.Needs.{needs}
+use Rattle.distributor.proofs.row.endpoint_of.Statement.{statement}
+use Rattle.distributor.proofs.row.endpoint_of.Tie as tie
+
+returns : tie.Need-returns
+unfolding L.endpointOf
+returns c = c .number32 .ensures
+
+pub endpoint-of-spec : {M : Type 1} → statement M
+endpoint-of-spec = tie.close (tie.spec (λ c κs. search needs) returns)

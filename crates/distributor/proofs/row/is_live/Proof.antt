@@ -1,0 +1,12 @@
+use Rattle.distributor.specs.Layout as L
+use borrow.Author.Needs.{needs}
+use borrow.Author.Needs.{needs}
+use Rattle.distributor.proofs.row.is_live.Statement.{statement}
+use Rattle.distributor.proofs.row.is_live.Tie as tie
+
+returns : tie.Need-returns
+unfolding L.live
+returns c = rw (← (c .octet .ensures))
+
+pub is-live-spec : {M : Type 1} → statement M
+is-live-spec = tie.close (tie.spec (λ c κs. search needs) returns)

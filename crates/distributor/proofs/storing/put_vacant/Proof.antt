@@ -1,0 +1,28 @@
+use mathlib.Core.Path.{ap, _∙_}
+use denote.Ref.{now}
+use Prim.Native.Nat.{_+_, _*_}
+use Rattle.distributor.specs.Layout as L
+use borrow.Author.Needs.{needs}
+use Rattle.octets.specs.Write.{over}
+use Rattle.distributor.proofs.PadLaws.{padded-none}
+use Rattle.distributor.specs.Layout.{rowsAt, rowLength}
+use borrow.Author.Needs.{needs}
+use Rattle.distributor.proofs.storing.put_vacant.Statement.{statement}
+use Rattle.distributor.proofs.storing.put_vacant.Tie as tie
+
+returns : tie.Need-returns
+unfolding L.withRow L.vacantRow
+returns c =
+    let a = c .before .before .before .before .before .before .args in
+    c .before .before .put-padded .ensures ∙ ap (over (now (a .state)) (rowsAt + a .place * rowLength)) (padded-none rowLength)
+
+pub put-vacant-spec : {M : Type 1} → statement M
+put-vacant-spec =
+    tie.close
+    (tie.spec
+    (λ c. search needs)
+    (λ c. search needs)
+    (λ c. search needs)
+    (λ c κs. search needs)
+    (λ c. search needs)
+    returns)

@@ -1,0 +1,92 @@
+use native.Mathlib.Omega.{arith}
+use mathlib.Core.Path.{_≡_, refl, sym, _∙_}
+use denote.Ref.{now}
+use mathlib.Core.List.{[], _∷_, _++_}
+use lib.ListN.{length}
+use Rattle.distributor.specs.Limits.{places}
+use Rattle.distributor.specs.Layout as L
+use borrow.Author.Needs.{needs}
+use Rattle.octets.proofs.WriteLaws.{wrote-none, wrote-over, wrote-more}
+use Rattle.octets.specs.Number.{octets16}
+use Rattle.octets.specs.Part.{part}
+use Rattle.octets.specs.Bounds.{partIn}
+use Rattle.message.specs.Limits.{mkiLimit, saltLimit}
+use Rattle.message.specs.Parts.{keyPlaces}
+use Rattle.distributor.specs.Limits.{keyLimit}
+use Rattle.distributor.specs.Keys.{keysIn}
+use Rattle.distributor.proofs.FieldLaws.{field-length}
+use Rattle.distributor.proofs.RowWriting.{wrote-at, wrote-keep, wrote-all, octets-of-16}
+use Rattle.distributor.proofs.KeysRoom.{part-room}
+use lib.ListN.{length-append}
+use Rattle.distributor.specs.Layout.{rowLength, identifierAt, profileAt, mkiAt, clientKeyAt, serverKeyAt, clientSaltAt, serverSaltAt}
+use borrow.Author.Needs.{needs}
+use Rattle.distributor.proofs.writing.key_row.Statement.{statement}
+use Rattle.distributor.proofs.writing.key_row.Tie as tie
+
+put-part-requires : tie.Need-put-part-requires
+put-part-requires c κs =
+    let a = c .before .before .before .before .before .before .before .before .before .before .before .before .args in
+    let n : length (now (a .row)) ≡ rowLength = c .before .before .before .before .before .before .before .before .before .before .before .before .pre in
+    (rw (c .before .before .before .before .before .before .before .before .before .key-places .ensures) (part-room (now (a .s)) _ (a .lengths .mki) (omega (arith, c .before .before .before .before .before .before .before .before .before .before .before .before .good, c .before .before .before .before .before .before .before .before .before .before .before .before .fits))), omega arith)
+
+put-part-requires-2 : tie.Need-put-part-requires-2
+put-part-requires-2 c κs =
+    let a = c .before .before .before .before .before .before .before .before .before .before .before .before .before .before .before .before .args in
+    let n : length (now (a .row)) ≡ rowLength = c .before .before .before .before .before .before .before .before .before .before .before .before .before .before .before .before .pre in
+    (rw (c .before .before .before .before .before .before .before .before .before .before .before .before .before .key-places .ensures) (part-room (now (a .s)) _ (a .lengths .«client_key») (omega (arith, c .before .before .before .before .before .before .before .before .before .before .before .before .before .before .before .before .good, c .before .before .before .before .before .before .before .before .before .before .before .before .before .before .before .before .fits))), omega arith)
+
+put-part-requires-3 : tie.Need-put-part-requires-3
+put-part-requires-3 c κs =
+    let a = c .before .before .before .before .before .before .before .before .before .before .before .before .before .before .before .before .before .before .before .before .args in
+    let n : length (now (a .row)) ≡ rowLength = c .before .before .before .before .before .before .before .before .before .before .before .before .before .before .before .before .before .before .before .before .pre in
+    (rw (c .before .before .before .before .before .before .before .before .before .before .before .before .before .before .before .before .before .key-places .ensures) (part-room (now (a .s)) _ (a .lengths .«server_key») (omega (arith, c .before .before .before .before .before .before .before .before .before .before .before .before .before .before .before .before .before .before .before .before .good, c .before .before .before .before .before .before .before .before .before .before .before .before .before .before .before .before .before .before .before .before .fits))), omega arith)
+
+put-part-requires-4 : tie.Need-put-part-requires-4
+put-part-requires-4 c κs =
+    let a = c .before .before .before .before .before .before .before .before .before .before .before .before .before .before .before .before .before .before .before .before .before .before .before .before .args in
+    let n : length (now (a .row)) ≡ rowLength = c .before .before .before .before .before .before .before .before .before .before .before .before .before .before .before .before .before .before .before .before .before .before .before .before .pre in
+    (rw (c .before .before .before .before .before .before .before .before .before .before .before .before .before .before .before .before .before .before .before .before .before .key-places .ensures) (part-room (now (a .s)) _ (a .lengths .«client_salt») (omega (arith, c .before .before .before .before .before .before .before .before .before .before .before .before .before .before .before .before .before .before .before .before .before .before .before .before .good, c .before .before .before .before .before .before .before .before .before .before .before .before .before .before .before .before .before .before .before .before .before .before .before .before .fits))), omega arith)
+
+put-part-requires-5 : tie.Need-put-part-requires-5
+put-part-requires-5 c κs =
+    let a = c .before .before .before .before .before .before .before .before .before .before .before .before .before .before .before .before .before .before .before .before .before .before .before .before .before .before .before .before .args in
+    let n : length (now (a .row)) ≡ rowLength = c .before .before .before .before .before .before .before .before .before .before .before .before .before .before .before .before .before .before .before .before .before .before .before .before .before .before .before .before .pre in
+    (rw (c .before .before .before .before .before .before .before .before .before .before .before .before .before .before .before .before .before .before .before .before .before .before .before .before .before .key-places .ensures) (part-room (now (a .s)) _ (a .lengths .«server_salt») (omega (arith, c .before .before .before .before .before .before .before .before .before .before .before .before .before .before .before .before .before .before .before .before .before .before .before .before .before .before .before .before .good, c .before .before .before .before .before .before .before .before .before .before .before .before .before .before .before .before .before .before .before .before .before .before .before .before .before .before .before .before .fits))), omega arith)
+
+returns : tie.Need-returns
+unfolding L.keyedRow keysIn
+returns c =
+    let a = c .before .before .before .before .before .before .before .before .before .before .before .before .before .before .before .before .before .before .before .before .before .before .before .before .before .before .before .before .before .before .before .args in
+    let o = now (a .row) in
+    let s = now (a .s) in
+    let k = keyPlaces (a .lengths) in
+    let n : length o ≡ rowLength = c .before .before .before .before .before .before .before .before .before .before .before .before .before .before .before .before .before .before .before .before .before .before .before .before .before .before .before .before .before .before .before .pre in
+    let places = c .before .before .before .before .before .before .before .before .before .before .before .before .before .before .before .before .before .before .before .before .before .before .before .before .before .before .before .before .key-places .ensures in
+    let w0 = wrote-at (wrote-more (2 ∷ []) (wrote-none o) (omega arith) (c .before .before .before .before .before .before .before .before .before .before .before .before .before .before .before .before .before .before .before .before .before .before .before .before .before .before .put-octet .ensures .0) (c .before .before .before .before .before .before .before .before .before .before .before .before .before .before .before .before .before .before .before .before .before .before .before .before .before .before .put-octet .ensures .1)) identifierAt refl in
+    let w1 = wrote-keep w0 profileAt (omega arith) (omega arith) in
+    let m1 : length ((2 ∷ []) ++ part o identifierAt profileAt) ≡ profileAt = sym (w1 .place) in
+    let w2 = wrote-at (wrote-more (octets16 (a .profile)) w1 (omega arith) (c .before .before .before .before .before .before .before .before .before .before .before .before .before .before .before .before .before .before .before .before .before .before .put-number16 .ensures .0) (c .before .before .before .before .before .before .before .before .before .before .before .before .before .before .before .before .before .before .before .before .before .before .put-number16 .ensures .1)) mkiAt (rw (length-append, m1)) in
+    let w3 = wrote-over {r = clientKeyAt} (L.field mkiLimit (partIn s (k .mki))) w2 (omega (arith, field-length mkiLimit (partIn s (k .mki)))) (rw (c .before .before .before .before .before .before .before .before .before .before .before .before .before .before .before .before .before .before .before .before .before .before .before .before .before .before .before .before .key-places .ensures) at (c .before .before .before .before .before .before .before .before .before .before .before .before .before .before .before .before .before .before .put-part .ensures)) in
+    let w4 = wrote-over {r = serverKeyAt} (L.field keyLimit (partIn s (k .«client_key»))) w3 (omega (arith, field-length keyLimit (partIn s (k .«client_key»)))) (rw (c .before .before .before .before .before .before .before .before .before .before .before .before .before .before .before .before .before .before .before .before .before .before .before .before .before .before .before .before .key-places .ensures) at (c .before .before .before .before .before .before .before .before .before .before .before .before .before .before .put-part2 .ensures)) in
+    let w5 = wrote-over {r = clientSaltAt} (L.field keyLimit (partIn s (k .«server_key»))) w4 (omega (arith, field-length keyLimit (partIn s (k .«server_key»)))) (rw (c .before .before .before .before .before .before .before .before .before .before .before .before .before .before .before .before .before .before .before .before .before .before .before .before .before .before .before .before .key-places .ensures) at (c .before .before .before .before .before .before .before .before .before .before .put-part3 .ensures)) in
+    let w6 = wrote-over {r = serverSaltAt} (L.field saltLimit (partIn s (k .«client_salt»))) w5 (omega (arith, field-length saltLimit (partIn s (k .«client_salt»)))) (rw (c .before .before .before .before .before .before .before .before .before .before .before .before .before .before .before .before .before .before .before .before .before .before .before .before .before .before .before .before .key-places .ensures) at (c .before .before .before .before .before .before .put-part4 .ensures)) in
+    let w7 = wrote-over {r = rowLength} (L.field saltLimit (partIn s (k .«server_salt»))) w6 (omega (arith, field-length saltLimit (partIn s (k .«server_salt»)))) (rw (c .before .before .before .before .before .before .before .before .before .before .before .before .before .before .before .before .before .before .before .before .before .before .before .before .before .before .before .before .key-places .ensures) at (c .before .before .put-part5 .ensures)) in
+    wrote-all w7 (sym n) ∙ rw (octets-of-16 (a .profile) (omega (arith, c .before .before .before .before .before .before .before .before .before .before .before .before .before .before .before .before .before .before .before .before .before .before .before .before .before .before .before .before .before .before .before .fits)))
+
+pub key-row-spec : {M : Type 1} → statement M
+key-row-spec =
+    tie.close
+    (tie.spec
+    (λ c κs. search needs)
+    (λ c κs. search needs)
+    (λ c κs. search needs)
+    (λ c. search needs)
+    put-part-requires
+    put-part-requires-2
+    put-part-requires-3
+    (λ c. search needs)
+    put-part-requires-4
+    (λ c. search needs)
+    put-part-requires-5
+    (λ c. search needs)
+    returns)

@@ -1,0 +1,25 @@
+-- The key fields of an association, and those that a MediaKeys message brings.
+use Prim.Native.Nat.{ℕ}
+use mathlib.Core.List.{List}
+use Rattle.octets.specs.Bounds.{partIn}
+use Rattle.message.specs.Parts.{keyPlaces}
+use Rattle.message.specs.declared.bodies.KeyLengths.{KeyLengths}
+
+pub record Keys : Type 0 where
+  pub profile : ℕ
+  pub mki : List ℕ
+  pub clientKey : List ℕ
+  pub serverKey : List ℕ
+  pub clientSalt : List ℕ
+  pub serverSalt : List ℕ
+
+-- of a message that was read at the front of s
+unfoldable pub keysIn : List ℕ → (profile : ℕ) → KeyLengths → Keys
+keysIn s profile k = record {
+  profile = profile;
+  mki = partIn s (keyPlaces k .mki);
+  clientKey = partIn s (keyPlaces k .«client_key»);
+  serverKey = partIn s (keyPlaces k .«server_key»);
+  clientSalt = partIn s (keyPlaces k .«client_salt»);
+  serverSalt = partIn s (keyPlaces k .«server_salt»);
+}

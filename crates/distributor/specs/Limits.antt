@@ -1,0 +1,18 @@
+-- The table's limits by name; those of messages are the message crate's.
+use Prim.Native.Nat.{ℕ, _+_, _-_}
+use Rattle.message.specs.Limits.{width, bodyLimit}
+
+-- live associations at most: the mission
+abbrev pub places : ℕ
+places = 32
+
+-- the longest key of a profile, and the longest good profile list
+abbrev pub keyLimit : ℕ
+keyLimit = 32
+
+abbrev pub listLimit : ℕ
+listLimit = 4
+
+-- a DTLS packet has at most 4,094 - A octets: document 01, "Tunnel messages"
+abbrev pub packetLimit : ℕ
+packetLimit = bodyLimit - (width + 2)

@@ -1,0 +1,90 @@
+-- The number and the values that each case of the calls' enums stands for.
+use Prim.Native.Nat.{ℕ, _+_}
+use mathlib.Core.Path.{_≡_}
+use mathlib.Core.List.{List, _++_}
+use lib.ListN.{length, drop}
+use Rattle.distributor.specs.Verdict.{Verdict, allowed, refusal}
+use Rattle.distributor.specs.Answer as Answer
+use Rattle.distributor.specs.Answer.{Answer, refused, moreNeeded, wrote, placed, ended, found, keysStored, delivery, removed, version}
+use Rattle.distributor.specs.declared.check.Check.{Check}
+use Rattle.distributor.specs.declared.ending.Ended.{Ended}
+use Rattle.distributor.specs.declared.opening.Opened.{Opened}
+use Rattle.distributor.specs.declared.sending.Sent.{Sent}
+use Rattle.distributor.specs.declared.receiving.Received.{Received}
+use Rattle.message.specs.Frame as Frame
+use Rattle.message.specs.Limits.{header}
+use Rattle.message.specs.declared.framing.Kind.{Kind}
+
+abbrev pub checkOf : Check → Verdict
+checkOf Check.Allowed = allowed
+checkOf (Check.Refused number) = refusal number
+
+abbrev pub endedOf : Ended → Answer
+endedOf (Ended.Refused number) = refused number 0
+endedOf Ended.Done = ended
+
+abbrev pub openedOf : Opened → Answer
+openedOf (Opened.Refused number) = refused number 0
+openedOf (Opened.At place) = placed place
+
+-- ---- calls that write: refused, or so many octets written
+
+pub data Sending : Type 0 where
+  notSent : (number : ℕ) → Sending
+  sent : (count : ℕ) → Sending
+
+abbrev pub sendingOf : Sent → Sending
+sendingOf (Sent.Refused number) = notSent number
+sendingOf (Sent.Written count) = sent count
+
+-- an answer of such a call is a refusal or what was written; the others are not theirs
+abbrev pub sending : Answer → Sending
+sending (refused number taken) = notSent number
+sending moreNeeded = notSent 0
+sending (wrote octets) = sent (length octets)
+sending (placed place) = notSent 0
+sending ended = notSent 0
+sending (found a) = notSent 0
+sending (keysStored taken) = notSent 0
+sending (delivery endpoint dtls taken) = notSent 0
+sending (removed taken) = notSent 0
+sending (version number taken) = notSent 0
+
+-- the output afterwards: what was written at its front, and the octets behind as they were; or every octet as it was
+abbrev pub outputBy : Answer → List ℕ → List ℕ
+outputBy (refused number taken) out = out
+outputBy moreNeeded out = out
+outputBy (wrote octets) out = octets ++ drop (length octets) out
+outputBy (placed place) out = out
+outputBy ended out = out
+outputBy (found a) out = out
+outputBy (keysStored taken) out = out
+outputBy (delivery endpoint dtls taken) out = out
+outputBy (removed taken) out = out
+outputBy (version number taken) out = out
+
+abbrev pub Sends : Answer → (before after : List ℕ) → Sent → Type 0
+Sends a before after r = (sendingOf r ≡ sending a) × (after ≡ outputBy a before)
+
+-- ---- Tunnel octets; refusal 5 has a case of its own
+
+abbrev pub receivedOf : Received → Answer
+receivedOf (Received.Refused number taken) = refused number taken
+receivedOf (Received.BadBody taken) = refused 5 taken
+receivedOf Received.MoreNeeded = moreNeeded
+receivedOf (Received.KeysStored taken) = keysStored taken
+receivedOf (Received.Delivery endpoint dtls taken) = delivery endpoint dtls taken
+receivedOf (Received.Disconnected taken) = removed taken
+receivedOf (Received.Version number taken) = version number taken
+
+-- the octets of a whole SupportedProfiles, which is refusal 4; 0 where the octets hold none
+abbrev pub profilesIn : Frame.Framing → ℕ
+profilesIn Frame.moreNeeded = 0
+profilesIn (Frame.refused number taken) = 0
+profilesIn (Frame.version number) = 0
+profilesIn (Frame.whole Kind.SupportedProfiles n) = header + n
+profilesIn (Frame.whole Kind.UnsupportedVersion n) = 0
+profilesIn (Frame.whole Kind.MediaKeys n) = 0
+profilesIn (Frame.whole Kind.TunneledDtls n) = 0
+profilesIn (Frame.whole Kind.EndpointDisconnect n) = 0
+profilesIn (Frame.whole Kind.Unlisted n) = 0

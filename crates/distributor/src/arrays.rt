@@ -1,0 +1,31 @@
+// Parts of a row as arrays by value.
+ghost use mathlib.Core.Path.{_≡_};
+ghost use Prim.Native.Nat.{_+_};
+ghost use Rattle.octets.specs.Part.{part};
+ghost use Rattle.distributor.specs.Layout.{padded};
+
+pub fn array16(s: &[u8], at: usize) -> [u8; 16]
+    ensures { λ r. ⌜ r ≡ padded 16 (part (now (s .entry)) at (at + 16)) ⌝ }
+{
+    let tail = octets::part(s, at, s.len());
+    let mut a = [0; 16];
+    let mut i = 0;
+    while i < 16 {
+        a[i] = octets::octet(tail, i);
+        i += 1;
+    }
+    a
+}
+
+pub fn array32(s: &[u8], at: usize) -> [u8; 32]
+    ensures { λ r. ⌜ r ≡ padded 32 (part (now (s .entry)) at (at + 32)) ⌝ }
+{
+    let tail = octets::part(s, at, s.len());
+    let mut a = [0; 32];
+    let mut i = 0;
+    while i < 32 {
+        a[i] = octets::octet(tail, i);
+        i += 1;
+    }
+    a
+}

@@ -1,0 +1,62 @@
+// Where things stand in the block.
+use message::limits::MKI_LIMIT;
+use message::limits::SALT_LIMIT;
+use message::limits::WIDTH;
+ghost use mathlib.Core.Path.{_≡_};
+ghost use Prim.Native.Nat.{_<_};
+ghost use lib.ListN.{length};
+ghost use Rattle.distributor.specs.Limits as Limits;
+ghost use Rattle.distributor.specs.Layout as Spec;
+
+// Live associations at most.
+pub const PLACES: usize = 32;
+// The longest key of a profile, and the longest good profile list.
+pub const KEY_LIMIT: usize = 32;
+
+pub const LIST_LIMIT: usize = 4;
+
+// The tunnel, its profile list behind a length octet, the rows.
+pub const TUNNEL: usize = 0;
+
+pub const LIST: usize = 1;
+
+pub const ROWS: usize = LIST + 1 + LIST_LIMIT;
+
+// In a row: state, identifier, endpoint, profile; then each field behind a length octet.
+pub const STATE: usize = 0;
+
+pub const IDENTIFIER: usize = 1;
+
+pub const ENDPOINT: usize = IDENTIFIER + WIDTH;
+
+pub const PROFILE: usize = ENDPOINT + 4;
+
+pub const MKI: usize = PROFILE + 2;
+
+pub const CLIENT_KEY: usize = MKI + 1 + MKI_LIMIT as usize;
+
+pub const SERVER_KEY: usize = CLIENT_KEY + 1 + KEY_LIMIT;
+
+pub const CLIENT_SALT: usize = SERVER_KEY + 1 + KEY_LIMIT;
+
+pub const SERVER_SALT: usize = CLIENT_SALT + 1 + SALT_LIMIT as usize;
+
+pub const ROW: usize = SERVER_SALT + 1 + SALT_LIMIT as usize;
+
+// The length of a block.
+pub const BLOCK: usize = ROWS + PLACES * ROW;
+
+pub fn is_up(state: &[u8]) -> bool
+    ensures { λ r. ⌜ r ≡ Spec.up (now (state .entry)) ⌝ }
+{
+    octets::octet(state, TUNNEL) != 0
+}
+
+// The row of a place.
+pub fn row_at(state: &[u8], place: usize) -> &[u8]
+    requires { ⌜ (length (now state) ≡ Spec.blockLength) × (place < Limits.places) ⌝ }
+    ensures { λ r. ⌜ now r ≡ Spec.rowOf (now (state .entry)) place ⌝ }
+{
+    let start = ROWS + place * ROW;
+    octets::part(state, start, start + ROW)
+}

@@ -1,0 +1,60 @@
+// Close.
+use crate::block::BLOCK;
+use crate::block::PLACES;
+use crate::block::is_up;
+use crate::check::Check;
+use crate::check::refused;
+use crate::search::place_of_identifier;
+use crate::sending::Sent;
+use crate::storing::put_vacant;
+use message::limits::HEADER;
+use message::limits::WIDTH;
+use octets::refusal;
+ghost use mathlib.Core.Path.{_≡_};
+ghost use lib.ListN.{length};
+ghost use Rattle.distributor.specs.Layout.{blockLength};
+ghost use Rattle.distributor.specs.Table as Spec;
+ghost use Rattle.distributor.specs.Outcomes.{checkOf, Sends};
+
+fn check_close(state: &[u8], identifier: &[u8], room: usize) -> Check
+    requires { ⌜ length (now state) ≡ blockLength ⌝ }
+    ensures { λ r. ⌜ checkOf r ≡ Spec.closeVerdict (now (state .entry)) (now (identifier .entry)) room ⌝ }
+{
+    if !is_up(state) {
+        return refused(refusal::TUNNEL_DOWN);
+    }
+    if identifier.len() != WIDTH {
+        return refused(refusal::IDENTIFIER_LENGTH);
+    }
+    if PLACES <= place_of_identifier(state, identifier) {
+        return refused(refusal::NO_ASSOCIATION);
+    }
+    if room < HEADER + WIDTH {
+        return refused(refusal::NO_ROOM);
+    }
+    Check::Allowed
+}
+
+fn close_in(state: &mut [u8], identifier: &[u8], out: &mut [u8]) -> Sent
+    requires { ⌜ length (now state) ≡ blockLength ⌝ }
+    ensures { λ r. ⌜ Sends (Spec.closeAnswer (now (state .entry)) (now (identifier .entry)) (length (now (out .entry)))) (now (out .entry)) (now (out .exit)) r × (now (state .exit) ≡ Spec.closeNext (now (state .entry)) (now (identifier .entry)) (length (now (out .entry)))) ⌝ }
+{
+    match check_close(state, identifier, out.len()) {
+        Check::Allowed => {
+            message::write_endpoint_disconnect(identifier, out);
+            let place = place_of_identifier(state, identifier);
+            put_vacant(state, place);
+            Sent::Written {
+                count: HEADER + WIDTH,
+            }
+        }
+        Check::Refused { number } => Sent::Refused { number },
+    }
+}
+
+// Writes EndpointDisconnect and removes the record; refusals 1, 20, 6, 13.
+pub fn close(state: &mut [u8; BLOCK], identifier: &[u8], out: &mut [u8]) -> Sent
+    ensures { λ r. ⌜ Sends (Spec.closeAnswer (now (state .entry)) (now (identifier .entry)) (length (now (out .entry)))) (now (out .entry)) (now (out .exit)) r × (now (state .exit) ≡ Spec.closeNext (now (state .entry)) (now (identifier .entry)) (length (now (out .entry)))) ⌝ }
+{
+    close_in(state, identifier, out)
+}

@@ -1,0 +1,65 @@
+// Open.
+use crate::block::BLOCK;
+use crate::block::PLACES;
+use crate::block::is_up;
+use crate::check::Check;
+use crate::check::refused;
+use crate::search::place_of_endpoint;
+use crate::search::place_of_identifier;
+use crate::search::vacant_place;
+use crate::storing::put_open;
+use message::limits::WIDTH;
+use octets::refusal;
+ghost use mathlib.Core.Path.{_≡_};
+ghost use lib.ListN.{length};
+ghost use Rattle.distributor.specs.Layout.{blockLength};
+ghost use Rattle.distributor.specs.Table as Spec;
+ghost use Rattle.distributor.specs.Outcomes.{checkOf, openedOf};
+
+pub enum Opened {
+    Refused { number: u8 },
+    At { place: usize },
+}
+
+fn check_open(state: &[u8], identifier: &[u8], endpoint: u32) -> Check
+    requires { ⌜ length (now state) ≡ blockLength ⌝ }
+    ensures { λ r. ⌜ checkOf r ≡ Spec.openVerdict (now (state .entry)) (now (identifier .entry)) endpoint ⌝ }
+{
+    if !is_up(state) {
+        return refused(refusal::TUNNEL_DOWN);
+    }
+    if identifier.len() != WIDTH {
+        return refused(refusal::IDENTIFIER_LENGTH);
+    }
+    if place_of_identifier(state, identifier) < PLACES {
+        return refused(refusal::IDENTIFIER_LIVE);
+    }
+    if place_of_endpoint(state, endpoint) < PLACES {
+        return refused(refusal::ENDPOINT_LIVE);
+    }
+    if vacant_place(state) < PLACES {
+        return Check::Allowed;
+    }
+    refused(refusal::TABLE_FULL)
+}
+
+fn open_in(state: &mut [u8], identifier: &[u8], endpoint: u32) -> Opened
+    requires { ⌜ length (now state) ≡ blockLength ⌝ }
+    ensures { λ r. ⌜ (openedOf r ≡ Spec.openAnswer (now (state .entry)) (now (identifier .entry)) endpoint) × (now (state .exit) ≡ Spec.openNext (now (state .entry)) (now (identifier .entry)) endpoint) ⌝ }
+{
+    match check_open(state, identifier, endpoint) {
+        Check::Allowed => {
+            let place = vacant_place(state);
+            put_open(state, place, identifier, endpoint);
+            Opened::At { place }
+        }
+        Check::Refused { number } => Opened::Refused { number },
+    }
+}
+
+// An association at the lowest free place; refusals 1, 20, 11, 12, 10.
+pub fn open(state: &mut [u8; BLOCK], identifier: &[u8], endpoint: u32) -> Opened
+    ensures { λ r. ⌜ (openedOf r ≡ Spec.openAnswer (now (state .entry)) (now (identifier .entry)) endpoint) × (now (state .exit) ≡ Spec.openNext (now (state .entry)) (now (identifier .entry)) endpoint) ⌝ }
+{
+    open_in(state, identifier, endpoint)
+}

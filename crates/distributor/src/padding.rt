@@ -1,0 +1,27 @@
+// Octets written at a place and padded with zeros.
+ghost use mathlib.Core.Path.{_≡_};
+ghost use Prim.Native.Nat.{_+_, _≤_};
+ghost use lib.ListN.{length};
+ghost use Rattle.octets.specs.Write.{over};
+ghost use Rattle.distributor.specs.Layout as Spec;
+
+// The first n octets of s from a place on, with zeros behind where there are fewer.
+pub fn put_padded(out: &mut [u8], at: usize, n: usize, s: &[u8])
+    requires { ⌜ at + n ≤ length (now out) ⌝ }
+    ensures { λ _. ⌜ now (out .exit) ≡ over (now (out .entry)) at (Spec.padded n (now (s .entry))) ⌝ }
+{
+    let mut i = 0;
+    while i < n {
+        out[at + i] = octets::octet(s, i);
+        i += 1;
+    }
+}
+
+// A length octet and the padded field behind it.
+pub fn put_field(out: &mut [u8], at: usize, limit: usize, s: &[u8])
+    requires { ⌜ (length (now s) ≤ 255) × (at + 1 + limit ≤ length (now out)) ⌝ }
+    ensures { λ _. ⌜ now (out .exit) ≡ over (now (out .entry)) at (Spec.field limit (now (s .entry))) ⌝ }
+{
+    out[at] = s.len() as u8;
+    put_padded(out, at + 1, limit, s);
+}

@@ -1,0 +1,248 @@
+// Tunnel octets.
+use crate::block::BLOCK;
+use crate::block::LIST;
+use crate::block::LIST_LIMIT;
+use crate::block::PLACES;
+use crate::block::is_up;
+use crate::block::row_at;
+use crate::check::Check;
+use crate::check::refused;
+use crate::row::endpoint_of;
+use crate::search::place_of_identifier;
+use crate::storing::put_down;
+use crate::storing::put_keys;
+use crate::storing::put_vacant;
+use message::Body;
+use message::Fields;
+use message::Frame;
+use message::KeyLengths;
+use message::Kind;
+use message::Read;
+use message::limits::HEADER;
+use message::limits::WIDTH;
+use octets::Bounds;
+use octets::refusal;
+ghost use mathlib.Core.Path.{_≡_};
+ghost use lib.ListN.{length};
+ghost use Rattle.distributor.specs.Layout as Layout;
+ghost use Rattle.message.specs.Frame as Framing;
+ghost use Rattle.message.specs.Read.{reading};
+ghost use Rattle.distributor.specs.Table as Spec;
+ghost use Rattle.distributor.specs.Outcomes as Out;
+
+pub enum Received {
+    Refused {
+        number: u8,
+        taken: usize,
+    },
+    // Refusal 5.
+    BadBody {
+        taken: usize,
+    },
+    MoreNeeded,
+    KeysStored {
+        taken: usize,
+    },
+    // DTLS octets for an endpoint: where they stand in the lent octets.
+    Delivery {
+        endpoint: u32,
+        dtls: Bounds,
+        taken: usize,
+    },
+    Disconnected {
+        taken: usize,
+    },
+    Version {
+        version: u8,
+        taken: usize,
+    },
+}
+
+fn profiles_of(kind: Kind, body_length: u16) -> usize
+    ensures { λ r. ⌜ r ≡ Out.profilesIn (Framing.whole kind «body_length») ⌝ }
+{
+    match kind {
+        Kind::SupportedProfiles => HEADER + body_length as usize,
+        Kind::UnsupportedVersion => 0,
+        Kind::MediaKeys => 0,
+        Kind::TunneledDtls => 0,
+        Kind::EndpointDisconnect => 0,
+        Kind::Unlisted => 0,
+    }
+}
+
+// The octets of a whole SupportedProfiles at the front, 0 where there is none.
+fn profiles_taken(s: &[u8]) -> usize
+    ensures { λ r. ⌜ r ≡ Out.profilesIn (Framing.frame (now (s .entry))) ⌝ }
+{
+    match message::read_frame(s) {
+        Frame::Whole { kind, body_length } => profiles_of(kind, body_length),
+        Frame::MoreNeeded => 0,
+        Frame::EmptyVersion => 0,
+        Frame::Version { version: _ } => 0,
+        Frame::Oversize => 0,
+    }
+}
+
+// The profile list that the tunnel started with.
+fn list_of(state: &[u8]) -> &[u8]
+    ensures { λ r. ⌜ now r ≡ Layout.listOf (now (state .entry)) ⌝ }
+{
+    let field = octets::part(state, LIST + 1, LIST + 1 + LIST_LIMIT);
+    octets::part(field, 0, octets::octet(state, LIST) as usize)
+}
+
+fn check_keys(state: &[u8], identifier: &[u8], profile: u16, lengths: KeyLengths) -> Check
+    requires { ⌜ length (now state) ≡ Layout.blockLength ⌝ }
+    ensures { λ r. ⌜ Out.checkOf r ≡ Spec.keysVerdict (now (state .entry)) (now (identifier .entry)) profile lengths ⌝ }
+{
+    if PLACES <= place_of_identifier(state, identifier) {
+        return refused(refusal::NO_ASSOCIATION);
+    }
+    if !message::in_list(profile, list_of(state)) {
+        return refused(refusal::PROFILE_NOT_OFFERED);
+    }
+    if !message::keys_fit(profile, lengths) {
+        return refused(refusal::KEY_LENGTH);
+    }
+    if !message::mki_and_salts_fit(lengths) {
+        return refused(refusal::MKI_OR_SALT_LENGTH);
+    }
+    Check::Allowed
+}
+
+// MediaKeys: all key fields are replaced, or none.
+fn take_keys(
+    state: &mut [u8],
+    s: &[u8],
+    profile: u16,
+    lengths: KeyLengths,
+    taken: usize,
+) -> Received
+    requires { ⌜ length (now state) ≡ Layout.blockLength ⌝ }
+    ensures { λ r. ⌜ (Out.receivedOf r ≡ Spec.fieldsAnswer (now (state .entry)) (now (s .entry)) (Fields.MediaKeys profile lengths) taken) × (now (state .exit) ≡ Spec.fieldsNext (now (state .entry)) (now (s .entry)) (Fields.MediaKeys profile lengths)) ⌝ }
+{
+    let identifier = octets::part(s, HEADER, HEADER + WIDTH);
+    match check_keys(state, identifier, profile, lengths) {
+        Check::Allowed => {
+            let place = place_of_identifier(state, identifier);
+            put_keys(state, place, s, profile, lengths);
+            Received::KeysStored { taken }
+        }
+        Check::Refused { number } => Received::Refused { number, taken },
+    }
+}
+
+// TunneledDtls: the octets and their endpoint.
+fn deliver(state: &[u8], s: &[u8], dtls_length: u16, taken: usize) -> Received
+    requires { ⌜ length (now state) ≡ Layout.blockLength ⌝ }
+    ensures { λ r. ⌜ Out.receivedOf r ≡ Spec.fieldsAnswer (now (state .entry)) (now (s .entry)) (Fields.TunneledDtls «dtls_length») taken ⌝ }
+{
+    let identifier = octets::part(s, HEADER, HEADER + WIDTH);
+    let place = place_of_identifier(state, identifier);
+    if place < PLACES {
+        Received::Delivery {
+            endpoint: endpoint_of(row_at(state, place)),
+            dtls: Bounds {
+                start: HEADER + WIDTH + 2,
+                end: HEADER + WIDTH + 2 + dtls_length as usize,
+            },
+            taken,
+        }
+    } else {
+        Received::Refused {
+            number: refusal::NO_ASSOCIATION,
+            taken,
+        }
+    }
+}
+
+// EndpointDisconnect: the record is removed.
+fn disconnect(state: &mut [u8], s: &[u8], taken: usize) -> Received
+    requires { ⌜ length (now state) ≡ Layout.blockLength ⌝ }
+    ensures { λ r. ⌜ (Out.receivedOf r ≡ Spec.fieldsAnswer (now (state .entry)) (now (s .entry)) Fields.EndpointDisconnect taken) × (now (state .exit) ≡ Spec.fieldsNext (now (state .entry)) (now (s .entry)) Fields.EndpointDisconnect) ⌝ }
+{
+    let identifier = octets::part(s, HEADER, HEADER + WIDTH);
+    let place = place_of_identifier(state, identifier);
+    if place < PLACES {
+        put_vacant(state, place);
+        Received::Disconnected { taken }
+    } else {
+        Received::Refused {
+            number: refusal::NO_ASSOCIATION,
+            taken,
+        }
+    }
+}
+
+fn take_fields(state: &mut [u8], s: &[u8], fields: Fields, taken: usize) -> Received
+    requires { ⌜ length (now state) ≡ Layout.blockLength ⌝ }
+    ensures { λ r. ⌜ (Out.receivedOf r ≡ Spec.fieldsAnswer (now (state .entry)) (now (s .entry)) fields taken) × (now (state .exit) ≡ Spec.fieldsNext (now (state .entry)) (now (s .entry)) fields) ⌝ }
+{
+    match fields {
+        Fields::SupportedProfiles {
+            version: _,
+            list_length: _,
+        } => Received::Refused {
+            number: refusal::WRONG_DIRECTION,
+            taken,
+        },
+        Fields::UnsupportedVersion { version } => {
+            put_down(state);
+            Received::Version { version, taken }
+        }
+        Fields::MediaKeys { profile, lengths } => take_keys(state, s, profile, lengths, taken),
+        Fields::TunneledDtls { dtls_length } => deliver(state, s, dtls_length, taken),
+        Fields::EndpointDisconnect => disconnect(state, s, taken),
+    }
+}
+
+// What was read, with refusal 4 already tested.
+fn take_read(state: &mut [u8], s: &[u8]) -> Received
+    requires { ⌜ length (now state) ≡ Layout.blockLength ⌝ }
+    ensures { λ r. ⌜ (Out.receivedOf r ≡ Spec.readAnswer (now (state .entry)) (now (s .entry)) (reading (now (s .entry)))) × (now (state .exit) ≡ Spec.readNext (now (state .entry)) (now (s .entry)) (reading (now (s .entry)))) ⌝ }
+{
+    match message::read_message(s) {
+        Read::MoreNeeded => Received::MoreNeeded,
+        Read::Oversize => {
+            put_down(state);
+            Received::Refused {
+                number: refusal::OVERSIZE,
+                taken: 0,
+            }
+        }
+        Read::Unlisted { taken } => Received::Refused {
+            number: refusal::UNLISTED_TYPE,
+            taken,
+        },
+        Read::BadBody { taken } => Received::BadBody { taken },
+        Read::Accepted { fields, taken } => take_fields(state, s, fields, taken),
+    }
+}
+
+fn octets_in(state: &mut [u8], s: &[u8]) -> Received
+    requires { ⌜ length (now state) ≡ Layout.blockLength ⌝ }
+    ensures { λ r. ⌜ (Out.receivedOf r ≡ Spec.octetsAnswer (now (state .entry)) (now (s .entry))) × (now (state .exit) ≡ Spec.octetsNext (now (state .entry)) (now (s .entry))) ⌝ }
+{
+    if !is_up(state) {
+        return Received::Refused {
+            number: refusal::TUNNEL_DOWN,
+            taken: 0,
+        };
+    }
+    let profiles = profiles_taken(s);
+    if profiles != 0 {
+        return Received::Refused {
+            number: refusal::WRONG_DIRECTION,
+            taken: profiles,
+        };
+    }
+    take_read(state, s)
+}
+
+// Octets from the key distributor: 1, then the reading; type 3: 6, 7, 8, 9; types 4 and 5: 6.
+pub fn tunnel_octets(state: &mut [u8; BLOCK], s: &[u8]) -> Received
+    ensures { λ r. ⌜ (Out.receivedOf r ≡ Spec.octetsAnswer (now (state .entry)) (now (s .entry))) × (now (state .exit) ≡ Spec.octetsNext (now (state .entry)) (now (s .entry))) ⌝ }
+{
+    octets_in(state, s)
+}

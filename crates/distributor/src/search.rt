@@ -1,0 +1,52 @@
+// The place of a row that passes a test; the number of places where none does.
+use crate::block::PLACES;
+use crate::block::row_at;
+use crate::row::is_live;
+use crate::row::is_named;
+use crate::row::is_serving;
+ghost use mathlib.Core.Path.{_≡_};
+ghost use lib.ListN.{length};
+ghost use Rattle.distributor.specs.Layout.{blockLength};
+ghost use Rattle.distributor.specs.Table as Spec;
+
+pub fn place_of_identifier(state: &[u8], identifier: &[u8]) -> usize
+    requires { ⌜ length (now state) ≡ blockLength ⌝ }
+    ensures { λ r. ⌜ r ≡ Spec.placeOfIdentifier (now (state .entry)) (now (identifier .entry)) ⌝ }
+{
+    let mut place = 0;
+    while place < PLACES {
+        if is_named(row_at(state, place), identifier) {
+            return place;
+        }
+        place += 1;
+    }
+    place
+}
+
+pub fn place_of_endpoint(state: &[u8], endpoint: u32) -> usize
+    requires { ⌜ length (now state) ≡ blockLength ⌝ }
+    ensures { λ r. ⌜ r ≡ Spec.placeOfEndpoint (now (state .entry)) endpoint ⌝ }
+{
+    let mut place = 0;
+    while place < PLACES {
+        if is_serving(row_at(state, place), endpoint) {
+            return place;
+        }
+        place += 1;
+    }
+    place
+}
+
+pub fn vacant_place(state: &[u8]) -> usize
+    requires { ⌜ length (now state) ≡ blockLength ⌝ }
+    ensures { λ r. ⌜ r ≡ Spec.vacantPlace (now (state .entry)) ⌝ }
+{
+    let mut place = 0;
+    while place < PLACES {
+        if !is_live(row_at(state, place)) {
+            return place;
+        }
+        place += 1;
+    }
+    place
+}

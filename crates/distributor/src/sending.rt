@@ -1,0 +1,89 @@
+// Booth packet, and what calls that write answer.
+use crate::block::BLOCK;
+use crate::block::PLACES;
+use crate::block::is_up;
+use crate::block::row_at;
+use crate::check::Check;
+use crate::check::refused;
+use crate::row::identifier_of;
+use crate::search::place_of_endpoint;
+use demux::Kind;
+use demux::Sorted;
+use message::limits::BODY_LIMIT;
+use message::limits::HEADER;
+use message::limits::WIDTH;
+use octets::refusal;
+ghost use mathlib.Core.Path.{_≡_};
+ghost use lib.ListN.{length};
+ghost use Rattle.distributor.specs.Layout.{blockLength};
+ghost use Rattle.distributor.specs.Refusals.{notDtls};
+ghost use Rattle.distributor.specs.Table as Spec;
+ghost use Rattle.distributor.specs.Outcomes.{checkOf, Sends};
+
+pub enum Sent {
+    Refused { number: u8 },
+    Written { count: usize },
+}
+
+// The longest packet that a tunnel message carries.
+const PACKET_LIMIT: usize = BODY_LIMIT as usize - (WIDTH + 2);
+
+fn is_not_dtls(packet: &[u8]) -> bool
+    ensures { λ r. ⌜ r ≡ notDtls (now (packet .entry)) ⌝ }
+{
+    match demux::sort(packet) {
+        Sorted::Empty => true,
+        Sorted::Packet(kind) => match kind {
+            Kind::Stun => true,
+            Kind::Dtls => false,
+            Kind::Rtp => true,
+            Kind::Other => true,
+        },
+    }
+}
+
+fn check_packet(state: &[u8], endpoint: u32, packet: &[u8], room: usize) -> Check
+    requires { ⌜ length (now state) ≡ blockLength ⌝ }
+    ensures { λ r. ⌜ checkOf r ≡ Spec.packetVerdict (now (state .entry)) endpoint (now (packet .entry)) room ⌝ }
+{
+    if !is_up(state) {
+        return refused(refusal::TUNNEL_DOWN);
+    }
+    if PLACES <= place_of_endpoint(state, endpoint) {
+        return refused(refusal::NO_ASSOCIATION);
+    }
+    if is_not_dtls(packet) {
+        return refused(refusal::NOT_DTLS);
+    }
+    if PACKET_LIMIT < packet.len() {
+        return refused(refusal::PACKET_TOO_LONG);
+    }
+    if room < HEADER + WIDTH + 2 + packet.len() {
+        return refused(refusal::NO_ROOM);
+    }
+    Check::Allowed
+}
+
+fn packet_in(state: &[u8], endpoint: u32, packet: &[u8], out: &mut [u8]) -> Sent
+    requires { ⌜ length (now state) ≡ blockLength ⌝ }
+    ensures { λ r. ⌜ Sends (Spec.packetAnswer (now (state .entry)) endpoint (now (packet .entry)) (length (now (out .entry)))) (now (out .entry)) (now (out .exit)) r ⌝ }
+{
+    match check_packet(state, endpoint, packet, out.len()) {
+        Check::Allowed => {
+            let place = place_of_endpoint(state, endpoint);
+            message::write_tunneled_dtls(identifier_of(row_at(state, place)), packet, out);
+            Sent::Written {
+                count: HEADER + WIDTH + 2 + packet.len(),
+            }
+        }
+        Check::Refused { number } => Sent::Refused { number },
+    }
+}
+
+// Writes TunneledDtls for an endpoint's association; refusals 1, 6, 14, 15, 13.
+pub fn booth_packet(state: &[u8; BLOCK], endpoint: u32, packet: &[u8], out: &mut [u8]) -> Sent
+    ensures { λ r. ⌜ Sends (Spec.packetAnswer (now (state .entry)) endpoint (now (packet .entry)) (length (now (out .entry)))) (now (out .entry)) (now (out .exit)) r ⌝ }
+{
+    let s: &[u8] = state;
+    packet_in(s, endpoint, packet, out)
+}

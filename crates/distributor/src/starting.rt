@@ -1,0 +1,52 @@
+// Start.
+use crate::block::BLOCK;
+use crate::block::is_up;
+use crate::check::Check;
+use crate::check::refused;
+use crate::sending::Sent;
+use crate::storing::put_up;
+use message::limits::HEADER;
+use octets::refusal;
+ghost use mathlib.Core.Path.{_≡_};
+ghost use lib.ListN.{length};
+ghost use Rattle.distributor.specs.Layout.{blockLength};
+ghost use Rattle.distributor.specs.Table as Spec;
+ghost use Rattle.distributor.specs.Outcomes.{checkOf, Sends};
+
+fn check_start(state: &[u8], list: &[u8], room: usize) -> Check
+    ensures { λ r. ⌜ checkOf r ≡ Spec.startVerdict (now (state .entry)) (now (list .entry)) room ⌝ }
+{
+    if is_up(state) {
+        return refused(refusal::TUNNEL_UP);
+    }
+    if !message::good_list(list) {
+        return refused(refusal::BAD_PROFILE_LIST);
+    }
+    if room < HEADER + 3 + list.len() {
+        return refused(refusal::NO_ROOM);
+    }
+    Check::Allowed
+}
+
+fn start_in(state: &mut [u8], list: &[u8], out: &mut [u8]) -> Sent
+    requires { ⌜ length (now state) ≡ blockLength ⌝ }
+    ensures { λ r. ⌜ Sends (Spec.startAnswer (now (state .entry)) (now (list .entry)) (length (now (out .entry)))) (now (out .entry)) (now (out .exit)) r × (now (state .exit) ≡ Spec.startNext (now (state .entry)) (now (list .entry)) (length (now (out .entry)))) ⌝ }
+{
+    match check_start(state, list, out.len()) {
+        Check::Allowed => {
+            message::write_supported_profiles(0, list, out);
+            put_up(state, list);
+            Sent::Written {
+                count: HEADER + 3 + list.len(),
+            }
+        }
+        Check::Refused { number } => Sent::Refused { number },
+    }
+}
+
+// Writes SupportedProfiles; tunnel up, table empty. Refusals 17, 16, 13.
+pub fn start(state: &mut [u8; BLOCK], list: &[u8], out: &mut [u8]) -> Sent
+    ensures { λ r. ⌜ Sends (Spec.startAnswer (now (state .entry)) (now (list .entry)) (length (now (out .entry)))) (now (out .entry)) (now (out .exit)) r × (now (state .exit) ≡ Spec.startNext (now (state .entry)) (now (list .entry)) (length (now (out .entry)))) ⌝ }
+{
+    start_in(state, list, out)
+}

@@ -1,0 +1,61 @@
+// Rows of the block lent to be written, and whole blocks.
+use crate::block::BLOCK;
+use crate::block::LIST;
+use crate::block::LIST_LIMIT;
+use crate::block::ROW;
+use crate::block::ROWS;
+use crate::block::TUNNEL;
+use crate::padding::put_field;
+use crate::padding::put_padded;
+use crate::writing::key_row;
+use crate::writing::open_row;
+use message::KeyLengths;
+ghost use mathlib.Core.Path.{_≡_};
+ghost use Prim.Native.Nat.{_<_, _≤_};
+ghost use lib.ListN.{length};
+ghost use Rattle.distributor.specs.Limits.{places, listLimit};
+ghost use Rattle.distributor.specs.Keys.{keysIn};
+ghost use Rattle.distributor.specs.Layout as Spec;
+
+pub fn put_open(state: &mut [u8], place: usize, identifier: &[u8], endpoint: u32)
+    requires { ⌜ (length (now state) ≡ Spec.blockLength) × (place < places) ⌝ }
+    ensures { λ _. ⌜ now (state .exit) ≡ Spec.withRow (now (state .entry)) place (Spec.openRow (now (identifier .entry)) endpoint) ⌝ }
+{
+    let start = ROWS + place * ROW;
+    let end = start + ROW;
+    open_row(&mut state[start..end], identifier, endpoint);
+}
+
+pub fn put_keys(state: &mut [u8], place: usize, s: &[u8], profile: u16, lengths: KeyLengths)
+    requires { ⌜ (length (now state) ≡ Spec.blockLength) × (place < places) ⌝ }
+    ensures { λ _. ⌜ now (state .exit) ≡ Spec.withRow (now (state .entry)) place (Spec.keyedRow (keysIn (now (s .entry)) profile lengths) (Spec.rowOf (now (state .entry)) place)) ⌝ }
+{
+    let start = ROWS + place * ROW;
+    let end = start + ROW;
+    key_row(&mut state[start..end], s, profile, lengths);
+}
+
+pub fn put_vacant(state: &mut [u8], place: usize)
+    requires { ⌜ (length (now state) ≡ Spec.blockLength) × (place < places) ⌝ }
+    ensures { λ _. ⌜ now (state .exit) ≡ Spec.withRow (now (state .entry)) place Spec.vacantRow ⌝ }
+{
+    put_padded(state, ROWS + place * ROW, ROW, b"");
+}
+
+// Tunnel down, table empty.
+pub fn put_down(state: &mut [u8])
+    requires { ⌜ length (now state) ≡ Spec.blockLength ⌝ }
+    ensures { λ _. ⌜ now (state .exit) ≡ Spec.downBlock ⌝ }
+{
+    put_padded(state, 0, BLOCK, b"");
+}
+
+// Tunnel up with a profile list, table empty.
+pub fn put_up(state: &mut [u8], list: &[u8])
+    requires { ⌜ (length (now state) ≡ Spec.blockLength) × (length (now list) ≤ listLimit) ⌝ }
+    ensures { λ _. ⌜ now (state .exit) ≡ Spec.upBlock (now (list .entry)) ⌝ }
+{
+    octets::put_octet(state, TUNNEL, 1);
+    put_field(state, LIST, LIST_LIMIT, list);
+    put_padded(state, ROWS, BLOCK - ROWS, b"");
+}
