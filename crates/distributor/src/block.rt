@@ -53,7 +53,7 @@ pub fn is_up(state: &[u8]) -> bool
 }
 
 // The row of a place.
-pub fn row_at(state: &[u8], place: usize) -> &[u8]
+pub(crate) fn row_at(state: &[u8], place: usize) -> &[u8]
     requires { ⌜ (length (now state) ≡ Spec.blockLength) × (place < Limits.places) ⌝ }
     ensures { λ r. ⌜ now r ≡ Spec.rowOf (now (state .entry)) place ⌝ }
 {

@@ -6,7 +6,7 @@ ghost use Rattle.octets.specs.Write.{over};
 ghost use Rattle.distributor.specs.Layout as Spec;
 
 // The first n octets of s from a place on, with zeros behind where there are fewer.
-pub fn put_padded(out: &mut [u8], at: usize, n: usize, s: &[u8])
+pub(crate) fn put_padded(out: &mut [u8], at: usize, n: usize, s: &[u8])
     requires { ⌜ at + n ≤ length (now out) ⌝ }
     ensures { λ _. ⌜ now (out .exit) ≡ over (now (out .entry)) at (Spec.padded n (now (s .entry))) ⌝ }
 {
@@ -18,7 +18,7 @@ pub fn put_padded(out: &mut [u8], at: usize, n: usize, s: &[u8])
 }
 
 // A length octet and the padded field behind it.
-pub fn put_field(out: &mut [u8], at: usize, limit: usize, s: &[u8])
+pub(crate) fn put_field(out: &mut [u8], at: usize, limit: usize, s: &[u8])
     requires { ⌜ (length (now s) ≤ 255) × (at + 1 + limit ≤ length (now out)) ⌝ }
     ensures { λ _. ⌜ now (out .exit) ≡ over (now (out .entry)) at (Spec.field limit (now (s .entry))) ⌝ }
 {

@@ -9,7 +9,7 @@ ghost use lib.ListN.{length};
 ghost use Rattle.distributor.specs.Layout.{blockLength};
 ghost use Rattle.distributor.specs.Table as Spec;
 
-pub fn place_of_identifier(state: &[u8], identifier: &[u8]) -> usize
+pub(crate) fn place_of_identifier(state: &[u8], identifier: &[u8]) -> usize
     requires { ⌜ length (now state) ≡ blockLength ⌝ }
     ensures { λ r. ⌜ r ≡ Spec.placeOfIdentifier (now (state .entry)) (now (identifier .entry)) ⌝ }
 {
@@ -23,7 +23,7 @@ pub fn place_of_identifier(state: &[u8], identifier: &[u8]) -> usize
     place
 }
 
-pub fn place_of_endpoint(state: &[u8], endpoint: u32) -> usize
+pub(crate) fn place_of_endpoint(state: &[u8], endpoint: u32) -> usize
     requires { ⌜ length (now state) ≡ blockLength ⌝ }
     ensures { λ r. ⌜ r ≡ Spec.placeOfEndpoint (now (state .entry)) endpoint ⌝ }
 {
@@ -37,7 +37,7 @@ pub fn place_of_endpoint(state: &[u8], endpoint: u32) -> usize
     place
 }
 
-pub fn vacant_place(state: &[u8]) -> usize
+pub(crate) fn vacant_place(state: &[u8]) -> usize
     requires { ⌜ length (now state) ≡ blockLength ⌝ }
     ensures { λ r. ⌜ r ≡ Spec.vacantPlace (now (state .entry)) ⌝ }
 {

@@ -17,7 +17,7 @@ ghost use Rattle.distributor.specs.Limits.{places, listLimit};
 ghost use Rattle.distributor.specs.Keys.{keysIn};
 ghost use Rattle.distributor.specs.Layout as Spec;
 
-pub fn put_open(state: &mut [u8], place: usize, identifier: &[u8], endpoint: u32)
+pub(crate) fn put_open(state: &mut [u8], place: usize, identifier: &[u8], endpoint: u32)
     requires { ⌜ (length (now state) ≡ Spec.blockLength) × (place < places) ⌝ }
     ensures { λ _. ⌜ now (state .exit) ≡ Spec.withRow (now (state .entry)) place (Spec.openRow (now (identifier .entry)) endpoint) ⌝ }
 {
@@ -26,7 +26,7 @@ pub fn put_open(state: &mut [u8], place: usize, identifier: &[u8], endpoint: u32
     open_row(&mut state[start..end], identifier, endpoint);
 }
 
-pub fn put_keys(state: &mut [u8], place: usize, s: &[u8], profile: u16, lengths: KeyLengths)
+pub(crate) fn put_keys(state: &mut [u8], place: usize, s: &[u8], profile: u16, lengths: KeyLengths)
     requires { ⌜ (length (now state) ≡ Spec.blockLength) × (place < places) ⌝ }
     ensures { λ _. ⌜ now (state .exit) ≡ Spec.withRow (now (state .entry)) place (Spec.keyedRow (keysIn (now (s .entry)) profile lengths) (Spec.rowOf (now (state .entry)) place)) ⌝ }
 {
@@ -35,7 +35,7 @@ pub fn put_keys(state: &mut [u8], place: usize, s: &[u8], profile: u16, lengths:
     key_row(&mut state[start..end], s, profile, lengths);
 }
 
-pub fn put_vacant(state: &mut [u8], place: usize)
+pub(crate) fn put_vacant(state: &mut [u8], place: usize)
     requires { ⌜ (length (now state) ≡ Spec.blockLength) × (place < places) ⌝ }
     ensures { λ _. ⌜ now (state .exit) ≡ Spec.withRow (now (state .entry)) place Spec.vacantRow ⌝ }
 {
@@ -43,7 +43,7 @@ pub fn put_vacant(state: &mut [u8], place: usize)
 }
 
 // Tunnel down, table empty.
-pub fn put_down(state: &mut [u8])
+pub(crate) fn put_down(state: &mut [u8])
     requires { ⌜ length (now state) ≡ Spec.blockLength ⌝ }
     ensures { λ _. ⌜ now (state .exit) ≡ Spec.downBlock ⌝ }
 {
@@ -51,7 +51,7 @@ pub fn put_down(state: &mut [u8])
 }
 
 // Tunnel up with a profile list, table empty.
-pub fn put_up(state: &mut [u8], list: &[u8])
+pub(crate) fn put_up(state: &mut [u8], list: &[u8])
     requires { ⌜ (length (now state) ≡ Spec.blockLength) × (length (now list) ≤ listLimit) ⌝ }
     ensures { λ _. ⌜ now (state .exit) ≡ Spec.upBlock (now (list .entry)) ⌝ }
 {

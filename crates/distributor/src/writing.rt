@@ -26,7 +26,7 @@ ghost use Rattle.distributor.specs.Keys.{keysIn};
 ghost use Rattle.distributor.specs.Layout as Spec;
 
 // The row becomes that of an association that was just opened.
-pub fn open_row(row: &mut [u8], identifier: &[u8], endpoint: u32)
+pub(crate) fn open_row(row: &mut [u8], identifier: &[u8], endpoint: u32)
     requires { ⌜ length (now row) ≡ Spec.rowLength ⌝ }
     ensures { λ _. ⌜ now (row .exit) ≡ Spec.openRow (now (identifier .entry)) endpoint ⌝ }
 {
@@ -46,7 +46,7 @@ fn put_part(row: &mut [u8], at: usize, limit: usize, s: &[u8], b: Bounds)
 }
 
 // All key fields of the row are replaced by those of a message at the front of s.
-pub fn key_row(row: &mut [u8], s: &[u8], profile: u16, lengths: KeyLengths)
+pub(crate) fn key_row(row: &mut [u8], s: &[u8], profile: u16, lengths: KeyLengths)
     requires { ⌜ length (now row) ≡ Spec.rowLength ⌝ }
     ensures { λ _. ⌜ now (row .exit) ≡ Spec.keyedRow (keysIn (now (s .entry)) profile lengths) (now (row .entry)) ⌝ }
 {

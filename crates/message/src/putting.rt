@@ -48,7 +48,7 @@ fn put_vector16(field: &[u8], at: usize, out: &mut [u8]) -> usize
     at
 }
 
-pub fn supported_profiles(version: u8, list: &[u8], out: &mut [u8])
+pub(crate) fn supported_profiles(version: u8, list: &[u8], out: &mut [u8])
     requires { ⌜ accepts (writing (M.supportedProfiles version (now list)) (length (now out))) ≡ true ⌝ }
     ensures { λ _. ⌜ now (out .exit) ≡ front (M.supportedProfiles version (now (list .entry))) (now (out .entry)) ⌝ }
 {
@@ -58,7 +58,7 @@ pub fn supported_profiles(version: u8, list: &[u8], out: &mut [u8])
     put_vector16(list, b, out);
 }
 
-pub fn unsupported_version(version: u8, out: &mut [u8])
+pub(crate) fn unsupported_version(version: u8, out: &mut [u8])
     requires { ⌜ accepts (writing (M.unsupportedVersion version) (length (now out))) ≡ true ⌝ }
     ensures { λ _. ⌜ now (out .exit) ≡ front (M.unsupportedVersion version) (now (out .entry)) ⌝ }
 {
@@ -66,7 +66,7 @@ pub fn unsupported_version(version: u8, out: &mut [u8])
     octets::put_octet(out, a, version);
 }
 
-pub fn media_keys(
+pub(crate) fn media_keys(
     identifier: &[u8],
     profile: u16,
     mki: &[u8],
@@ -96,7 +96,7 @@ pub fn media_keys(
     put_vector8(server_salt, g, out);
 }
 
-pub fn tunneled_dtls(identifier: &[u8], dtls: &[u8], out: &mut [u8])
+pub(crate) fn tunneled_dtls(identifier: &[u8], dtls: &[u8], out: &mut [u8])
     requires { ⌜ accepts (writing (M.tunneledDtls (now identifier) (now dtls)) (length (now out))) ≡ true ⌝ }
     ensures { λ _. ⌜ now (out .exit) ≡ front (M.tunneledDtls (now (identifier .entry)) (now (dtls .entry))) (now (out .entry)) ⌝ }
 {
@@ -106,7 +106,7 @@ pub fn tunneled_dtls(identifier: &[u8], dtls: &[u8], out: &mut [u8])
     put_vector16(dtls, b, out);
 }
 
-pub fn endpoint_disconnect(identifier: &[u8], out: &mut [u8])
+pub(crate) fn endpoint_disconnect(identifier: &[u8], out: &mut [u8])
     requires { ⌜ accepts (writing (M.endpointDisconnect (now identifier)) (length (now out))) ≡ true ⌝ }
     ensures { λ _. ⌜ now (out .exit) ≡ front (M.endpointDisconnect (now (identifier .entry))) (now (out .entry)) ⌝ }
 {
