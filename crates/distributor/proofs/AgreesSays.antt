@@ -110,6 +110,8 @@ pub agrees-cards : (v : View) (cards : Cards) → Agrees v cards → AsCards v c
 agrees-cards v cards g =
     record {
       tunnel = g .tunnel;
+      size = g .size;
+      idle = g .idle;
       held = λ i. rw (g .slots i) (held-on i (cards .card i .held));
       sized = g .sized;
       counted = λ i. (counted g i, live-filled g i);

@@ -8,7 +8,7 @@ use native.Mathlib.Nat.{not-suc-le-zero, le-of-suc-le-suc}
 use native.Mathlib.Omega.{arith}
 use lib.ListN.{length, getD, set}
 use Rattle.octets.proofs.Tests.{by-choice}
-use Rattle.distributor.specs.Search.{first, some, keep}
+use Rattle.distributor.specs.Search.{first, someOf, keep}
 use Rattle.distributor.proofs.Choices.{no-both, by-test}
 
 abbrev pub nonEmpty : {A : Type 0} → List A → Bool
@@ -40,40 +40,40 @@ module _ {A : Type 0} (p : A → Bool) where
   keeps {y} (List·Memᴰ·head {x} {xs = l} q) h = rw (sym (ap p q) ∙ h) (List·Memᴰ·head q)
   keeps {y} (List·Memᴰ·tail {x} {xs = l} m) h = by-choice (λ (k : List A). List·Memᴰ y k) (p x) _ _ (λ e. List·Memᴰ·tail (keeps m h)) (λ e. keeps m h)
 
-  pub found-some : {y : A} {l : List A} → List·Memᴰ y l → p y ≡ true → some p l ≡ true
-  unfolding some
+  pub found-some : {y : A} {l : List A} → List·Memᴰ y l → p y ≡ true → someOf p l ≡ true
+  unfolding someOf
   found-some (List·Memᴰ·head {x} {xs = l} q) h = rw (sym (ap p q) ∙ h)
-  found-some (List·Memᴰ·tail {x} {xs = l} m) h = by-test (λ b. (b || some p l) ≡ true) (p x) (λ e. refl) (λ e. found-some m h)
+  found-some (List·Memᴰ·tail {x} {xs = l} m) h = by-test (λ b. (b || someOf p l) ≡ true) (p x) (λ e. refl) (λ e. found-some m h)
 
-  pub some-keep : (l : List A) → some p l ≡ nonEmpty (keep p l)
-  unfolding some keep
+  pub some-keep : (l : List A) → someOf p l ≡ nonEmpty (keep p l)
+  unfolding someOf keep
   some-keep [] = refl
-  some-keep (x ∷ l) = by-test (λ b. (b || some p l) ≡ nonEmpty (cond b (x ∷ keep p l) (keep p l))) (p x) (λ e. refl) (λ e. some-keep l)
+  some-keep (x ∷ l) = by-test (λ b. (b || someOf p l) ≡ nonEmpty (cond b (x ∷ keep p l) (keep p l))) (p x) (λ e. refl) (λ e. some-keep l)
 
   -- ---- the first that passes
 
-  pub first-lt : (l : List A) → some p l ≡ true → first p l < length l
-  unfolding some first
+  pub first-lt : (l : List A) → someOf p l ≡ true → first p l < length l
+  unfolding someOf first
   first-lt [] h = no-both h refl
   first-lt (x ∷ l) h =
-      by-test (λ b. (b || some p l) ≡ true → cond b zero (suc (first p l)) < suc (length l)) (p x)
+      by-test (λ b. (b || someOf p l) ≡ true → cond b zero (suc (first p l)) < suc (length l)) (p x)
       (λ e k. omega arith) (λ e k. suc-le-suc (first-lt l k)) h
 
   module _ (d : A) where
-    pub first-found : (l : List A) → some p l ≡ true → List·Memᴰ (getD l (first p l) d) l × (p (getD l (first p l) d) ≡ true)
-    unfolding some first
+    pub first-found : (l : List A) → someOf p l ≡ true → List·Memᴰ (getD l (first p l) d) l × (p (getD l (first p l) d) ≡ true)
+    unfolding someOf first
     first-found [] h = no-both h refl
-    first-found (x ∷ l) h = by-test (λ b. (b || some p l) ≡ true → Found (cond b zero (suc (first p l)))) (p x)
+    first-found (x ∷ l) h = by-test (λ b. (b || someOf p l) ≡ true → Found (cond b zero (suc (first p l)))) (p x)
         (λ e k. (List·Memᴰ·head refl, e)) (λ e k. let r = first-found l k in (List·Memᴰ·tail (r .0), r .1)) h
       where
         Found : ℕ → Type 0
         Found n = List·Memᴰ (getD (x ∷ l) n d) (x ∷ l) × (p (getD (x ∷ l) n d) ≡ true)
 
-    pub first-none : (l : List A) → some p l ≡ false → getD l (first p l) d ≡ d
-    unfolding some first
+    pub first-none : (l : List A) → someOf p l ≡ false → getD l (first p l) d ≡ d
+    unfolding someOf first
     first-none [] h = refl
     first-none (x ∷ l) h =
-        by-test (λ b. (b || some p l) ≡ false → getD (x ∷ l) (cond b zero (suc (first p l))) d ≡ d) (p x)
+        by-test (λ b. (b || someOf p l) ≡ false → getD (x ∷ l) (cond b zero (suc (first p l))) d ≡ d) (p x)
         (λ e k. no-both refl k) (λ e k. first-none l k) h
 
     pub first-kept : (l : List A) → getD l (first p l) d ≡ getD (keep p l) 0 d

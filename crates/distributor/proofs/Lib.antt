@@ -32,6 +32,8 @@ pub mod AgreesSteps
 pub mod AgreesAnswers
 pub mod AgreesHanded
 pub mod Claimed
+pub mod KeysMean
+pub mod Refused
 pub mod RowWriting
 pub mod ArrayLaws
 pub mod ReceivingLaws

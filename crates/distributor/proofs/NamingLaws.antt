@@ -9,7 +9,7 @@ use Rattle.octets.specs.Part.{same}
 use Rattle.octets.proofs.SameLaws.{same-refl, same-true}
 use Rattle.octets.proofs.Tests.{by-choice, both}
 use Rattle.message.specs.Limits.{width}
-use Rattle.distributor.specs.Search.{some, Distinct}
+use Rattle.distributor.specs.Search.{someOf, Distinct}
 use Rattle.distributor.specs.Refusals.{wrongWidth}
 use Rattle.distributor.specs.Cards.{naming}
 use Rattle.distributor.proofs.Choices.{no-both, by-test}
@@ -17,7 +17,7 @@ use Rattle.distributor.proofs.KeepLaws.{found-some, first-found}
 
 module _ (i : List ℕ) (is : List (List ℕ)) where
   abbrev isNew : Bool
-  isNew = not (wrongWidth i) && not (some (same i) is)
+  isNew = not (wrongWidth i) && not (someOf (same i) is)
 
   pub naming-more : (j : List ℕ) → List·Memᴰ j is → List·Memᴰ j (naming i is)
   naming-more j m = by-choice (λ (l : List (List ℕ)). List·Memᴰ j l) isNew _ _ (λ e. List·Memᴰ·tail m) (λ e. m)
@@ -31,6 +31,6 @@ module _ (i : List ℕ) (is : List (List ℕ)) where
   pub naming-here : length i ≡ width → List·Memᴰ i (naming i is)
   naming-here w =
       rw (eq-eqb (length i) width w)
-      (by-test (λ b. List·Memᴰ i (cond (not b) (i ∷ is) is)) (some (same i) is)
+      (by-test (λ b. List·Memᴰ i (cond (not b) (i ∷ is) is)) (someOf (same i) is)
       (λ e. let r = first-found (same i) [] is e in Memᴰ·cast (same-true i _ (r .1)) (r .0))
       (λ e. List·Memᴰ·head refl))

@@ -5,7 +5,7 @@ use mathlib.Core.Bool.{true, false}
 use mathlib.Core.List.{List}
 use native.Mathlib.Omega.{arith}
 use borrow.Author.Tests.{lt-ltb, le-ltb}
-use lib.Dec.{ltb}
+use lib.Dec.{ltb, eqb}
 use Rattle.octets.specs.Bounds.{partIn}
 use Rattle.message.specs.Parts.{identifierPlace, dtlsPlace}
 use Rattle.message.specs.Frame as Frame
@@ -20,8 +20,10 @@ use Rattle.distributor.specs.Layout.{up, rowOf, endpointOf, keyedRow, wi
 use Rattle.distributor.specs.Verdict.{allowed, refusal}
 use Rattle.distributor.specs.Answer.{Answer, refused, keysStored, delivery, removed}
 use Rattle.distributor.specs.Refusals.{received, receiving}
-use Rattle.distributor.specs.Outcomes.{profilesIn}
+use Rattle.distributor.specs.Outcomes.{profilesIn, receivedOf}
+use Rattle.distributor.specs.declared.receiving.Received.{Received}
 use Rattle.distributor.specs.Table.{placeOfIdentifier, knows, keysVerdict, fieldsAnswer, fieldsNext, readAnswer, readNext, octetsAnswer, octetsNext}
+use Rattle.distributor.proofs.VerdictLaws.{keys-avoid}
 
 -- ---- refusal 4 is the only one that is not the reading's
 
@@ -126,6 +128,8 @@ module _ (s octets : List ℕ) (taken profile : ℕ) (k : KeyLengths) where
   keyed place p v e = rw (← v) (refl, e ∙ ap (λ (x : ℕ). withRow s x (keyedRow (keysIn octets profile k) (rowOf s x))) p)
 
   pub not-keyed : (number : ℕ) → refusal number ≡ keysVerdict s (partIn octets identifierPlace) profile k
-      → Fielded s octets taken (MediaKeys profile k) (refused number taken) s
+      → Fielded s octets taken (MediaKeys profile k) (receivedOf (Received.Refused number taken)) s
   unfolding fieldsAnswer fieldsNext
-  not-keyed number v = rw (← v) (refl, refl)
+  not-keyed number v =
+      let five : eqb number 5 ≡ false = rw (← v) at (keys-avoid 5 refl refl refl refl s (partIn octets identifierPlace) profile k) in
+      rw (← v, five) (refl, refl)

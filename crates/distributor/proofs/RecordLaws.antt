@@ -41,8 +41,8 @@ records-le (none ∷ l) = omega (arith, records-le l)
 records-le (some a ∷ l) = omega (arith, records-le l)
 
 -- no place is vacant exactly where there are as many records as places
-pub all-taken : (l : List Slot) → not (Search.some isVacant l) ≡ eqb (length (records l)) (length l)
-unfolding records Search.some
+pub all-taken : (l : List Slot) → not (Search.someOf isVacant l) ≡ eqb (length (records l)) (length l)
+unfolding records Search.someOf
 all-taken [] = refl
 all-taken (none ∷ l) = sym (ne-eqb (length (records l)) (suc (length l)) (λ q. omega (arith, records-le l)))
 all-taken (some a ∷ l) = all-taken l ∙ sym (eqb·suc-suc (length (records l)) (length l))

@@ -16,7 +16,7 @@ use Rattle.distributor.specs.Keys.{Keys}
 use Rattle.distributor.specs.Answer.{Association, opened, keyed}
 use Rattle.distributor.specs.Table.{associationOf}
 use Rattle.distributor.specs.declared.looking.Record.{Record}
-use Rattle.distributor.specs.Record.{stretch, keysIn, keysRead, recordOf, associationIn}
+use Rattle.distributor.specs.Record.{stretch, recordKeys, keysRead, recordOf, associationIn}
 use Rattle.distributor.proofs.FieldLaws.{padded-whole}
 
 -- both cases of a choice
@@ -29,8 +29,8 @@ module _ (r : List ℕ) (size : length r ≡ rowLength) where
   within : (at n : ℕ) → at + n ≤ rowLength → stretch r at n ≡ part r at (at + n)
   within at n h = padded-whole n (part r at (at + n)) (part-length r at (at + n) (omega arith) ∙ omega arith)
 
-  keys-read : keysRead (keysIn r) ≡ keysOf r
-  unfolding keysIn keysOf
+  keys-read : keysRead (recordKeys r) ≡ keysOf r
+  unfolding recordKeys keysOf
   keys-read =
       rw (
         within (mkiAt + 1) mkiLimit (omega arith),

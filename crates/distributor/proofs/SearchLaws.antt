@@ -6,16 +6,16 @@ use mathlib.Core.List.{List, [], _∷_, map}
 use native.Mathlib.Nat.{le-of-suc-le-suc, not-suc-le-zero}
 use lib.Dec.{ltb, leb·suc-suc, leb·zero, leb·suc-zero}
 use lib.ListN.{length, getD, set, replicate}
-use Rattle.distributor.specs.Search.{first, some}
+use Rattle.distributor.specs.Search.{first, someOf}
 
 module _ {A : Type 0} (p : A → Bool) where
   -- some element passes where the first that does stands within the list
-  pub some-first : (l : List A) → some p l ≡ ltb (first p l) (length l)
-  unfolding first some
+  pub some-first : (l : List A) → someOf p l ≡ ltb (first p l) (length l)
+  unfolding first someOf
   some-first [] = sym (leb·suc-zero 0)
   some-first (x ∷ l) = go (p x) (some-first l)
     where
-      go : (b : Bool) → some p l ≡ ltb (first p l) (length l) → (b || some p l) ≡ ltb (cond b zero (suc (first p l))) (suc (length l))
+      go : (b : Bool) → someOf p l ≡ ltb (first p l) (length l) → (b || someOf p l) ≡ ltb (cond b zero (suc (first p l))) (suc (length l))
       go true h = sym (leb·suc-suc 0 (length l) ∙ leb·zero (length l))
       go false h = h ∙ sym (leb·suc-suc (suc (first p l)) (length l))
 
@@ -38,8 +38,8 @@ module _ {A B : Type 0} (f : A → B) where
   first-along p q h [] = refl
   first-along p q h (x ∷ l) = rw (h x, first-along p q h l)
 
-  pub some-along : (p : B → Bool) (q : A → Bool) → ((x : A) → p (f x) ≡ q x) → (l : List A) → some p (map f l) ≡ some q l
-  unfolding some
+  pub some-along : (p : B → Bool) (q : A → Bool) → ((x : A) → p (f x) ≡ q x) → (l : List A) → someOf p (map f l) ≡ someOf q l
+  unfolding someOf
   some-along p q h [] = refl
   some-along p q h (x ∷ l) = rw (h x, some-along p q h l)
 

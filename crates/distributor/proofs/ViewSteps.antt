@@ -38,7 +38,7 @@ abbrev pub withSlot : (Slot → Bool) → Slot → View → View
 withSlot p x v = record { tunnel = v .tunnel; table = set (v .table) (Search.first p (v .table)) x }
 
 abbrev pub has : (Slot → Bool) → View → Bool
-has p v = Search.some p (v .table)
+has p v = Search.someOf p (v .table)
 
 -- all key fields replaced
 abbrev pub rekey : Keys → Association → Association

@@ -1,4 +1,4 @@
--- What calls answer: document 01's numbers and values. Nothing here speaks of the table.
+-- What calls answer: document 01's numbers and values. Of the table only the place numbers of openings are here.
 use Prim.Native.Nat.{ℕ}
 use mathlib.Core.List.{List}
 use Rattle.octets.specs.declared.parts.Bounds.{Bounds}

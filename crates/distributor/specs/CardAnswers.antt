@@ -27,7 +27,7 @@ tunnelOn cards = cards .card (replicate width 0) .tunnel
 abbrev pub isDown : Cards → Bool
 isDown cards = not (isUp (tunnelOn cards))
 
--- the identifier whose card has an endpoint, and what that card holds
+-- the identifier whose card has an endpoint
 abbrev pub identifierWith : Cards → ℕ → List ℕ
 identifierWith cards e = getD (keep (λ i. holding e (cards .card i .held)) (cards .opening)) 0 []
 
@@ -83,6 +83,7 @@ deliveryOn blank n taken = refused 6 taken
 deliveryOn (opened endpoint) n taken = delivery endpoint (dtlsPlace n) taken
 deliveryOn (keyed endpoint k) n taken = delivery endpoint (dtlsPlace n) taken
 
+-- a SupportedProfiles does not come this far: refusal 4 is given before its body is read
 abbrev pub messageDue : Cards → List ℕ → Fields → (taken : ℕ) → Answer
 messageDue cards octets (SupportedProfiles v n) taken = refused 4 taken
 messageDue cards octets (UnsupportedVersion v) taken = version v taken

@@ -1,4 +1,4 @@
--- The cards (document 01's own term, "What the proof has to say"): one for each identifier, fed the calls alone. Nothing here names the table.
+-- The cards (document 01's own term, "What the proof has to say"): one for each identifier, fed the calls alone. Nothing here names the table. There is a card for every list of octets; those that are not of A octets stay blank.
 use Prim.Native.Nat.{ℕ}
 use mathlib.Core.Bool.{Bool, true, false, cond, not, _&&_}
 use mathlib.Core.List.{List, [], _∷_}
@@ -13,7 +13,7 @@ use Rattle.message.specs.Read as Read
 use Rattle.message.specs.declared.bodies.Fields.{Fields}
 use Rattle.message.specs.declared.bodies.Fields.the-variants.{SupportedProfiles, UnsupportedVersion, MediaKeys, TunneledDtls, EndpointDisconnect}
 use Rattle.distributor.specs.Limits.{places}
-use Rattle.distributor.specs.Search.{some, keep}
+use Rattle.distributor.specs.Search.{someOf, keep}
 use Rattle.distributor.specs.Keys.{Keys, keysIn}
 use Rattle.distributor.specs.Tunnel.{Tunnel, down, upWith, isUp, listIn}
 use Rattle.distributor.specs.Call as Call
@@ -50,7 +50,7 @@ live cards = keep (λ i. filled (cards .card i .held)) (cards .opening)
 
 -- 12: a filled card has this endpoint; 10: as many cards are filled as there are places
 abbrev pub endpointLive : Cards → ℕ → Bool
-endpointLive cards e = some (λ i. holding e (cards .card i .held)) (cards .opening)
+endpointLive cards e = someOf (λ i. holding e (cards .card i .held)) (cards .opening)
 
 abbrev pub allLive : Cards → Bool
 allLive cards = eqb (length (live cards)) places
@@ -120,7 +120,7 @@ cardNext cards (Call.look endpoint) i = cards .card i
 -- ---- every card, and the identifiers that openings have named
 
 abbrev pub naming : List ℕ → List (List ℕ) → List (List ℕ)
-naming identifier is = cond (not (wrongWidth identifier) && not (some (same identifier) is)) (identifier ∷ is) is
+naming identifier is = cond (not (wrongWidth identifier) && not (someOf (same identifier) is)) (identifier ∷ is) is
 
 unfoldable pub openingNext : List (List ℕ) → Call.Call → List (List ℕ)
 openingNext is (Call.start list room) = is

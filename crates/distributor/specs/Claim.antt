@@ -2,7 +2,7 @@
 use Prim.Native.Nat.{ℕ, _≤_}
 use mathlib.Core.Path.{_≡_}
 use mathlib.Core.Logic.{_↔_}
-use mathlib.Core.Bool.{true}
+use mathlib.Core.Bool.{true, false}
 use mathlib.Core.List.{List, [], _∷_, map, List·Memᴰ}
 use mathlib.Core.Option.{some, none}
 use lib.ListN.{length}
@@ -13,6 +13,7 @@ use Rattle.message.specs.Parts.{meaning}
 use Rattle.message.specs.Read as Read
 use Rattle.distributor.specs.Limits.{places}
 use Rattle.distributor.specs.Search.{keep, Distinct}
+use Rattle.distributor.specs.Tunnel.{isUp}
 use Rattle.distributor.specs.Call as Call
 use Rattle.distributor.specs.Answer as Answer
 use Rattle.distributor.specs.Answer.{Answer, Association, refused, moreNeeded, wrote, placed, ended, found, keysStored, delivery, removed, version}
@@ -88,7 +89,7 @@ handout s (Call.close identifier room) = nothing
 handout s Call.end = nothing
 handout s (Call.look endpoint) = nothing
 
--- by the cards: an accepted type 4's DTLS octets, with the endpoint on the card of its identifier at that call
+-- by the cards: an accepted type 4's DTLS octets, with the endpoint on the card of its identifier at that call; while the tunnel is down every card is blank
 abbrev pub handedOn : Held → List ℕ → Handed
 handedOn blank dtls = nothing
 handedOn (opened endpoint) dtls = handed endpoint dtls
@@ -129,6 +130,9 @@ handedDues cards (c ∷ cs) = handedDue cards c ∷ handedDues (Cards.next cards
 pub record AsCards (v : View) (cards : Cards.Cards) : Type 0 where
   -- "the tunnel and its profile list are those of every card"
   pub tunnel : (i : List ℕ) → cards .card i .tunnel ≡ v .tunnel
+  -- there are as many places as the documents say, and none is taken while the tunnel is down
+  pub size : length (v .table) ≡ places
+  pub idle : isUp (v .tunnel) ≡ false → (i : List ℕ) → filled (cards .card i .held) ≡ false
   -- "the table has a record with an identifier exactly when that card is filled, then just one, equal to it in endpoint, state and key fields"
   pub held : (i : List ℕ) → map heldIn (recordsWith i (v .table)) ≡ heldOn (cards .card i .held)
   -- only cards of identifiers of A octets are ever filled

@@ -118,6 +118,7 @@ padded n x = take n (x ++ replicate n 0)
 abbrev pub field : (limit : ℕ) → List ℕ → List ℕ
 field limit x = length x ∷ padded limit x
 
+-- a number in octets; its first is not cut to an octet, so that every number reads back, and of a u16 or u32 it is one
 abbrev pub octetsOf16 : ℕ → List ℕ
 octetsOf16 n = n / 256 ∷ n % 256 ∷ []
 

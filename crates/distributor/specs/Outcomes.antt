@@ -1,8 +1,10 @@
 -- The number and the values that each case of the calls' enums stands for.
 use Prim.Native.Nat.{ℕ, _+_}
 use mathlib.Core.Path.{_≡_}
+use mathlib.Core.Bool.{cond}
 use mathlib.Core.List.{List, _++_}
 use lib.ListN.{length, drop}
+use lib.Dec.{eqb}
 use Rattle.distributor.specs.Verdict.{Verdict, allowed, refusal}
 use Rattle.distributor.specs.Answer as Answer
 use Rattle.distributor.specs.Answer.{Answer, refused, moreNeeded, wrote, placed, ended, found, keysStored, delivery, removed, version}
@@ -66,10 +68,10 @@ outputBy (version number taken) out = out
 abbrev pub Sends : Answer → (before after : List ℕ) → Sent → Type 0
 Sends a before after r = (sendingOf r ≡ sending a) × (after ≡ outputBy a before)
 
--- ---- Tunnel octets; refusal 5 has a case of its own
+-- ---- Tunnel octets; refusal 5 has a case of its own, so that number with the other stands for what is no answer of this call
 
 abbrev pub receivedOf : Received → Answer
-receivedOf (Received.Refused number taken) = refused number taken
+receivedOf (Received.Refused number taken) = cond (eqb number 5) ended (refused number taken)
 receivedOf (Received.BadBody taken) = refused 5 taken
 receivedOf Received.MoreNeeded = moreNeeded
 receivedOf (Received.KeysStored taken) = keysStored taken

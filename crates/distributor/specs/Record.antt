@@ -26,22 +26,22 @@ abbrev pub noKeys : RecordKeys
 noKeys = record {
   profile = 0;
   «mki_length» = 0;
-  mki = replicate 16 0;
+  mki = replicate mkiLimit 0;
   «client_key_length» = 0;
-  «client_key» = replicate 32 0;
+  «client_key» = replicate keyLimit 0;
   «server_key_length» = 0;
-  «server_key» = replicate 32 0;
+  «server_key» = replicate keyLimit 0;
   «client_salt_length» = 0;
-  «client_salt» = replicate 32 0;
+  «client_salt» = replicate saltLimit 0;
   «server_salt_length» = 0;
-  «server_salt» = replicate 32 0;
+  «server_salt» = replicate saltLimit 0;
 }
 
 abbrev pub noRecord : Record
-noRecord = record { keyed = false; identifier = replicate 16 0; endpoint = 0; keys = noKeys }
+noRecord = record { keyed = false; identifier = replicate width 0; endpoint = 0; keys = noKeys }
 
-unfoldable pub keysIn : List ℕ → RecordKeys
-keysIn r = record {
+unfoldable pub recordKeys : List ℕ → RecordKeys
+recordKeys r = record {
   profile = number16At r profileAt;
   «mki_length» = octetAt r mkiAt;
   mki = stretch r (mkiAt + 1) mkiLimit;
@@ -60,7 +60,7 @@ unfoldable pub recordOf : List ℕ → Record
 recordOf r =
     cond (eqb (octetAt r stateAt) 1)
     (record { keyed = false; identifier = stretch r identifierAt width; endpoint = endpointOf r; keys = noKeys })
-    (record { keyed = true; identifier = stretch r identifierAt width; endpoint = endpointOf r; keys = keysIn r })
+    (record { keyed = true; identifier = stretch r identifierAt width; endpoint = endpointOf r; keys = recordKeys r })
 
 unfoldable pub lookRecord : List ℕ → ℕ → Record
 lookRecord s endpoint = after (lookVerdict s endpoint) (recordOf (rowOf s (placeOfEndpoint s endpoint))) noRecord

@@ -137,6 +137,7 @@ abbrev pub rekeyed : List ℕ → List ℕ → List ℕ → (profile : ℕ) → 
 rekeyed s identifier octets profile k =
     withRow s (placeOfIdentifier s identifier) (keyedRow (keysIn octets profile k) (rowOf s (placeOfIdentifier s identifier)))
 
+-- a SupportedProfiles does not come this far: refusal 4 is given before its body is read
 unfoldable pub fieldsAnswer : List ℕ → List ℕ → Fields → (taken : ℕ) → Answer
 fieldsAnswer s octets (SupportedProfiles v n) taken = refused 4 taken
 fieldsAnswer s octets (UnsupportedVersion v) taken = version v taken

@@ -37,10 +37,6 @@ abbrev pub endpointIn : Association → ℕ
 endpointIn (opened identifier endpoint) = endpoint
 endpointIn (keyed identifier endpoint k) = endpoint
 
-abbrev pub isLive : Slot → Bool
-isLive none = false
-isLive (some a) = true
-
 abbrev pub isVacant : Slot → Bool
 isVacant none = true
 isVacant (some a) = false

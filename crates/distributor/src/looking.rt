@@ -4,6 +4,7 @@ use crate::arrays::array32;
 use crate::block::BLOCK;
 use crate::block::CLIENT_KEY;
 use crate::block::CLIENT_SALT;
+use crate::block::IDENTIFIER;
 use crate::block::MKI;
 use crate::block::PLACES;
 use crate::block::PROFILE;
@@ -13,7 +14,6 @@ use crate::block::STATE;
 use crate::block::is_up;
 use crate::block::row_at;
 use crate::row::endpoint_of;
-use crate::row::identifier_of;
 use crate::search::place_of_endpoint;
 use octets::refusal;
 ghost use mathlib.Core.Path.{_≡_};
@@ -86,7 +86,7 @@ fn no_record() -> Record
 }
 
 fn keys_of(row: &[u8]) -> RecordKeys
-    ensures { λ r. ⌜ r ≡ R.keysIn (now (row .entry)) ⌝ }
+    ensures { λ r. ⌜ r ≡ R.recordKeys (now (row .entry)) ⌝ }
 {
     RecordKeys {
         profile: octets::number16(row, PROFILE),
@@ -106,7 +106,7 @@ fn keys_of(row: &[u8]) -> RecordKeys
 fn record_of(row: &[u8]) -> Record
     ensures { λ r. ⌜ r ≡ R.recordOf (now (row .entry)) ⌝ }
 {
-    let identifier = array16(row, 1);
+    let identifier = array16(row, IDENTIFIER);
     let endpoint = endpoint_of(row);
     if octets::octet(row, STATE) == 1 {
         let keys = no_keys();

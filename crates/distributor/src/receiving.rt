@@ -12,7 +12,6 @@ use crate::search::place_of_identifier;
 use crate::storing::put_down;
 use crate::storing::put_keys;
 use crate::storing::put_vacant;
-use message::Body;
 use message::Fields;
 use message::Frame;
 use message::KeyLengths;
