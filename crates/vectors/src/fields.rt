@@ -139,7 +139,7 @@ pub fn endpoint_disconnect(identifier: usize, room: usize) {
 }
 
 // The first octets of an output, as far as it goes.
-fn first(out: &mut [u8], count: usize) -> &mut [u8] {
+pub fn first(out: &mut [u8], count: usize) -> &mut [u8] {
     if count <= out.len() {
         &mut out[0..count]
     } else {

@@ -17,12 +17,12 @@ pub fn read(lent: &[u8]) {
     print::text(b"\n");
 }
 
-fn more_needed() {
+pub fn more_needed() {
     print::text(b"more needed");
     took(0);
 }
 
-fn refused(number: u8, taken: usize) {
+pub fn refused(number: u8, taken: usize) {
     print::refusal(number);
     took(taken);
 }
@@ -33,7 +33,7 @@ fn accepted(lent: &[u8], fields: Fields, taken: usize) {
     took(taken);
 }
 
-fn took(taken: usize) {
+pub fn took(taken: usize) {
     print::text(b" taken");
     print::number(taken);
 }

@@ -21,7 +21,7 @@ pub fn outcome(answer: Write, out: &[u8]) {
 }
 
 // With the output's first octets, which keep their value.
-fn refused(number: u8, out: &[u8]) {
+pub fn refused(number: u8, out: &[u8]) {
     print::text(b" ");
     print::refusal(number);
     print::part(b"front", octets::part(out, 0, 3));
