@@ -1,0 +1,230 @@
+//! Measures the distributor's calls against an ordinary Rust table, after both have given the same
+//! answers on random lists of calls. Prints Markdown.
+
+mod agree;
+mod calls;
+mod stack;
+mod table;
+
+use agree::{endpoint, identifier, media_keys, message, tunneled_dtls, Random};
+use calls::{Calls, Rattle, Rust, RECORD};
+use std::hint::black_box;
+use std::time::Instant;
+
+/// States that one timed stretch goes through, restored before it.
+const STATES: usize = 16;
+const STRETCHES: usize = 60;
+const CALLS: usize = 2_000;
+const RUNS: usize = 301;
+
+#[derive(Clone, Copy)]
+enum Case {
+    Start,
+    Open,
+    Packet(usize),
+    Keys(usize),
+    Delivery,
+    Disconnect,
+    Version,
+    Close,
+    End,
+    Look,
+}
+
+struct Row {
+    call: &'static str,
+    answer: &'static str,
+    case: Case,
+    live: usize,
+}
+
+/// A tunnel that is up with both profiles and so many keyed associations.
+fn prepared<T: Calls>(live: usize) -> T {
+    let mut t = T::first();
+    let (mut out, mut more) = ([0; 64], [0; 3]);
+    assert_eq!(t.start(&[0, 9, 0, 10], &mut out), 10);
+    for i in 0..live {
+        assert_eq!(t.open(&identifier(i), endpoint(i)), i as u64);
+        let m = keys(i, 32);
+        assert_eq!(t.tunnel_octets(&m, &mut more), m.len() as u64);
+    }
+    t
+}
+
+fn keys(i: usize, length: usize) -> Vec<u8> {
+    let key = [i as u8 + 1; 32];
+    let (profile, salt) = if length == 16 { (9, 12) } else { (10, 32) };
+    let mki = if length == 16 { 0 } else { 16 };
+    media_keys(
+        &identifier(i),
+        profile,
+        [
+            &key[..mki],
+            &key[..length],
+            &key[..length],
+            &key[..salt],
+            &key[..salt],
+        ],
+    )
+}
+
+/// ns per call: calls that change nothing, one state.
+fn still<T: Calls>(t: &mut T, mut call: impl FnMut(&mut T, usize) -> u64) -> f64 {
+    let begin = Instant::now();
+    for i in 0..CALLS {
+        black_box(call(black_box(t), i));
+    }
+    begin.elapsed().as_nanos() as f64 / CALLS as f64
+}
+
+/// ns per call: calls that change the state, each on a state of its own.
+fn moving<T: Calls>(from: &T, mut call: impl FnMut(&mut T, usize) -> u64) -> f64 {
+    let mut states: Vec<T> = vec![from.clone(); STATES];
+    let mut total = 0;
+    for stretch in 0..STRETCHES {
+        for t in &mut states {
+            t.clone_from(from);
+        }
+        let states = black_box(&mut states);
+        let begin = Instant::now();
+        for (i, t) in states.iter_mut().enumerate() {
+            black_box(call(t, stretch * STATES + i));
+        }
+        total += begin.elapsed().as_nanos();
+    }
+    total as f64 / (STATES * STRETCHES) as f64
+}
+
+fn once<T: Calls>(case: Case, live: usize) -> f64 {
+    let mut t: T = prepared(live);
+    let n = live.max(1);
+    let mut r = Random(live as u64);
+    // Which association each call is about: a live one, at random.
+    let who: Vec<usize> = (0..1024).map(|_| r.below(n)).collect();
+    let at = |i: usize| who[i % who.len()];
+    let ids: Vec<[u8; 16]> = (0..33).map(identifier).collect();
+    let eps: Vec<u32> = (0..33).map(endpoint).collect();
+    let mut out = vec![0xEE; 4200];
+    let mut record = [0xEE; RECORD];
+    let mut more = [0; 3];
+    match case {
+        Case::Start if live == 0 => {
+            let down = T::first();
+            moving(&down, |t, _| t.start(black_box(&[0, 9, 0, 10]), &mut out))
+        }
+        Case::Start => still(&mut t, |t, _| t.start(black_box(&[0, 9, 0, 10]), &mut out)),
+        Case::Open if live == 32 => still(&mut t, |t, _| t.open(&ids[32], eps[32])),
+        Case::Open => moving(&t, |t, _| t.open(&ids[32], eps[32])),
+        Case::Packet(n) => {
+            let packet = vec![22; n];
+            still(&mut t, |t, i| {
+                t.booth_packet(eps[at(i)], black_box(&packet), &mut out)
+            })
+        }
+        Case::Keys(length) => {
+            let m: Vec<Vec<u8>> = (0..n).map(|i| keys(i, length)).collect();
+            still(&mut t, |t, i| t.tunnel_octets(&m[at(i)], &mut more))
+        }
+        Case::Delivery => {
+            let m: Vec<Vec<u8>> = ids
+                .iter()
+                .map(|id| tunneled_dtls(id, &[22; 1200]))
+                .collect();
+            still(&mut t, |t, i| t.tunnel_octets(&m[at(i)], &mut more))
+        }
+        Case::Disconnect => {
+            let m: Vec<Vec<u8>> = ids.iter().map(|id| message(5, id)).collect();
+            moving(&t, |t, i| t.tunnel_octets(&m[at(i)], &mut more))
+        }
+        Case::Version => moving(&t, |t, _| {
+            t.tunnel_octets(black_box(&[2, 0, 1, 3]), &mut more)
+        }),
+        Case::Close => moving(&t, |t, i| t.close(&ids[at(i)], &mut out)),
+        Case::End => moving(&t, |t, _| t.end()),
+        Case::Look => still(&mut t, |t, i| t.look(eps[at(i)], &mut record)),
+    }
+}
+
+fn median(mut v: Vec<f64>) -> f64 {
+    v.sort_by(f64::total_cmp);
+    v[v.len() / 2]
+}
+
+fn main() {
+    let seen = agree::run::<Rattle, Rust>(3000, 1000);
+    println!("Both tables gave the same answers and octets (3,000 random lists of 1,000 calls):\n");
+    println!("| call | accepted, or more needed | refused |\n|---|---:|---:|");
+    let names = [
+        "start",
+        "open",
+        "booth packet",
+        "tunnel octets",
+        "close",
+        "end",
+        "look",
+    ];
+    for (name, [accepted, refused]) in names.iter().zip(seen) {
+        println!("| {name} | {accepted} | {refused} |");
+    }
+
+    agree::run::<stack::Painted, Rust>(300, 1000);
+    println!("\nThe most stack that a call took, in octets (300 random lists of 1,000 calls):\n");
+    println!("| call | stack |\n|---|---:|");
+    for (name, most) in names.iter().zip(stack::most()) {
+        println!("| {name} | {most} |");
+    }
+
+    let mut rows = vec![Row {
+        call: "start",
+        answer: "accepted",
+        case: Case::Start,
+        live: 0,
+    }];
+    for (call, answer, case) in [
+        ("start", "refusal 17", Case::Start),
+        ("open", "accepted; at 32 refusal 10", Case::Open),
+        ("booth packet", "100 octets", Case::Packet(100)),
+        ("booth packet", "1,200 octets", Case::Packet(1200)),
+        ("tunnel octets", "keys of 16, salts of 12", Case::Keys(16)),
+        (
+            "tunnel octets",
+            "keys, salts of 32, MKI of 16",
+            Case::Keys(32),
+        ),
+        ("tunnel octets", "1,200 DTLS octets", Case::Delivery),
+        ("tunnel octets", "disconnect", Case::Disconnect),
+        ("tunnel octets", "version", Case::Version),
+        ("close", "accepted", Case::Close),
+        ("end", "accepted", Case::End),
+        ("look", "keyed record", Case::Look),
+    ] {
+        for live in [1, 16, 32] {
+            rows.push(Row {
+                call,
+                answer,
+                case,
+                live,
+            });
+        }
+    }
+    println!("\n| call | case | live | ns Rattle | ns Rust | Rust / Rattle |");
+    println!("|---|---|---:|---:|---:|---:|");
+    for Row {
+        call,
+        answer,
+        case,
+        live,
+    } in rows
+    {
+        let (mut a, mut b) = (vec![], vec![]);
+        for _ in 0..RUNS {
+            a.push(once::<Rattle>(case, live));
+            b.push(once::<Rust>(case, live));
+        }
+        let (a, b) = (median(a), median(b));
+        println!(
+            "| {call} | {answer} | {live} | {a:.1} | {b:.1} | {:.2} |",
+            b / a
+        );
+    }
+}
