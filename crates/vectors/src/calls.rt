@@ -9,9 +9,18 @@ use distributor::BLOCK;
 // The longest message.
 const ROOM: usize = 4099;
 
+// A call and the octets that it is given.
+fn asked(call: &[u8], name: &[u8], octets: &[u8]) {
+    print::text(call);
+    print::part(name, octets);
+}
+
+fn of(endpoint: u32) {
+    print::count(b"endpoint", endpoint as usize);
+}
+
 pub fn start(state: &mut [u8; BLOCK], list: &[u8], room: usize) {
-    print::text(b"start");
-    print::part(b"list", list);
+    asked(b"start", b"list", list);
     let mut output = [FILL; ROOM];
     let out = fields::first(&mut output, room);
     let answer = distributor::start(state, list, out);
@@ -19,16 +28,14 @@ pub fn start(state: &mut [u8; BLOCK], list: &[u8], room: usize) {
 }
 
 pub fn open(state: &mut [u8; BLOCK], identifier: &[u8], endpoint: u32) {
-    print::text(b"open");
-    print::part(b"identifier", identifier);
-    print::count(b"endpoint", endpoint as usize);
+    asked(b"open", b"identifier", identifier);
+    of(endpoint);
     outcomes::opened(distributor::open(state, identifier, endpoint));
 }
 
 pub fn booth_packet(state: &[u8; BLOCK], endpoint: u32, packet: &[u8], room: usize) {
-    print::text(b"booth packet");
-    print::count(b"endpoint", endpoint as usize);
-    print::part(b"packet", packet);
+    asked(b"booth", b"packet", packet);
+    of(endpoint);
     let mut output = [FILL; ROOM];
     let out = fields::first(&mut output, room);
     let answer = distributor::booth_packet(state, endpoint, packet, out);
@@ -36,14 +43,12 @@ pub fn booth_packet(state: &[u8; BLOCK], endpoint: u32, packet: &[u8], room: usi
 }
 
 pub fn tunnel_octets(state: &mut [u8; BLOCK], lent: &[u8]) {
-    print::text(b"tunnel");
-    print::part(b"octets", lent);
+    asked(b"tunnel", b"octets", lent);
     outcomes::received(distributor::tunnel_octets(state, lent), lent);
 }
 
 pub fn close(state: &mut [u8; BLOCK], identifier: &[u8], room: usize) {
-    print::text(b"close");
-    print::part(b"identifier", identifier);
+    asked(b"close", b"identifier", identifier);
     let mut output = [FILL; ROOM];
     let out = fields::first(&mut output, room);
     let answer = distributor::close(state, identifier, out);
@@ -57,6 +62,6 @@ pub fn end(state: &mut [u8; BLOCK]) {
 
 pub fn look(state: &[u8; BLOCK], endpoint: u32) {
     print::text(b"look");
-    print::count(b"endpoint", endpoint as usize);
+    of(endpoint);
     records::looked(distributor::look(state, endpoint));
 }

@@ -75,7 +75,8 @@ pub fn media_keys(
     let mut output = [FILL; ROOM];
     let out = first(&mut output, room);
     let answer = write_media_keys(
-        identifier,
+        octets::part(&IDENTIFIER, 0, identifier),
+        0x0102,
         mki,
         client_key,
         server_key,
@@ -86,8 +87,9 @@ pub fn media_keys(
     writes::outcome(answer, out);
 }
 
-fn write_media_keys(
-    identifier: usize,
+pub fn write_media_keys(
+    identifier: &[u8],
+    profile: u16,
     mki: usize,
     client_key: usize,
     server_key: usize,
@@ -101,8 +103,8 @@ fn write_media_keys(
     let client_salts = [0xC2; LONG_8];
     let server_salts = [0x52; LONG_8];
     message::write_media_keys(
-        octets::part(&IDENTIFIER, 0, identifier),
-        0x0102,
+        identifier,
+        profile,
         octets::part(&mkis, 0, mki),
         octets::part(&client_keys, 0, client_key),
         octets::part(&server_keys, 0, server_key),

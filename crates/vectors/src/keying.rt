@@ -1,6 +1,8 @@
 // Keys told by a key distributor, and the record that Look gives then.
+use crate::associations;
 use crate::associations::identifier;
 use crate::calls;
+use crate::fields;
 use crate::outcomes;
 use crate::print;
 use crate::tunnels;
@@ -10,12 +12,9 @@ use distributor::BLOCK;
 // More than the longest message given here.
 const ROOM: usize = 200;
 
-// More than the longest field.
-const LONG: usize = 40;
-
 pub fn cases() {
     let mut state = tunnels::started(&BOTH);
-    calls::open(&mut state, &identifier(1), 7);
+    associations::open(&mut state, 1, 7);
     calls::look(&state, 7);
     keyed(&mut state);
     refused(&mut state);
@@ -50,42 +49,28 @@ fn rekeyed(state: &mut [u8; BLOCK]) {
 // A profile that this tunnel did not start with.
 fn not_offered() {
     let mut state = tunnels::started(b"\x00\x0A");
-    calls::open(&mut state, &identifier(1), 7);
+    associations::open(&mut state, 1, 7);
     told(&mut state, 1, 0x0009, 0, 16, 12);
 }
 
 fn told(state: &mut [u8; BLOCK], n: u8, profile: u16, mki: usize, key: usize, salt: usize) {
     label(n, profile, mki, key, salt);
     let mut octets = [0u8; ROOM];
-    write(n, profile, mki, key, salt, &mut octets);
+    let id = identifier(n);
+    fields::write_media_keys(&id, profile, mki, key, key, salt, salt, &mut octets);
     outcomes::received(distributor::tunnel_octets(state, &octets), &octets);
 }
 
 fn label(n: u8, profile: u16, mki: usize, key: usize, salt: usize) {
-    print::text(b"keys for");
-    print::number(n as usize);
-    print::text(b" profile=");
-    print::number16(profile);
+    whose(n, profile);
     print::count(b"mki", mki);
     print::count(b"keys", key);
     print::count(b"salts", salt);
 }
 
-// Each field holds octets of its own, so that a swap is seen.
-fn write(n: u8, profile: u16, mki: usize, key: usize, salt: usize, out: &mut [u8]) {
-    let mkis = [0x4D; LONG];
-    let client_keys = [0xC1; LONG];
-    let server_keys = [0x51; LONG];
-    let client_salts = [0xC2; LONG];
-    let server_salts = [0x52; LONG];
-    message::write_media_keys(
-        &identifier(n),
-        profile,
-        octets::part(&mkis, 0, mki),
-        octets::part(&client_keys, 0, key),
-        octets::part(&server_keys, 0, key),
-        octets::part(&client_salts, 0, salt),
-        octets::part(&server_salts, 0, salt),
-        out,
-    );
+fn whose(n: u8, profile: u16) {
+    print::text(b"keys for");
+    print::number(n as usize);
+    print::text(b" profile=");
+    print::number16(profile);
 }

@@ -6,7 +6,7 @@ use message::Read;
 
 // The end of a line: the answer, and the octets taken, which are none where the answer has no count.
 pub fn read(lent: &[u8]) {
-    print::text(b": ");
+    print::colon();
     match message::read_message(lent) {
         Read::MoreNeeded => more_needed(),
         Read::Oversize => refused(octets::refusal::OVERSIZE, 0),
@@ -14,7 +14,7 @@ pub fn read(lent: &[u8]) {
         Read::BadBody { taken } => refused(octets::refusal::BAD_BODY, taken),
         Read::Accepted { fields, taken } => accepted(lent, fields, taken),
     }
-    print::text(b"\n");
+    print::end_line();
 }
 
 pub fn more_needed() {

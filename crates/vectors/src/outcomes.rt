@@ -22,16 +22,16 @@ pub fn sent(answer: Sent, out: &[u8]) {
 fn written(count: usize, out: &[u8]) {
     print::part(b"written", octets::part(out, 0, count));
     print::part(b"behind", octets::part(out, count, out.len()));
-    print::text(b"\n");
+    print::end_line();
 }
 
 pub fn opened(answer: Opened) {
-    print::text(b": ");
+    print::colon();
     match answer {
         Opened::Refused { number } => print::refusal(number),
         Opened::At { place } => at(place),
     }
-    print::text(b"\n");
+    print::end_line();
 }
 
 fn at(place: usize) {
@@ -40,16 +40,21 @@ fn at(place: usize) {
 }
 
 pub fn ended(answer: Ended) {
-    print::text(b": ");
+    print::colon();
     match answer {
         Ended::Refused { number } => print::refusal(number),
         Ended::Done => print::text(b"done"),
     }
-    print::text(b"\n");
+    print::end_line();
 }
 
 pub fn received(answer: Received, lent: &[u8]) {
-    print::text(b": ");
+    print::colon();
+    told(answer, lent);
+    print::end_line();
+}
+
+fn told(answer: Received, lent: &[u8]) {
     match answer {
         Received::Refused { number, taken } => messages::refused(number, taken),
         Received::BadBody { taken } => messages::refused(octets::refusal::BAD_BODY, taken),
@@ -63,7 +68,6 @@ pub fn received(answer: Received, lent: &[u8]) {
         Received::Disconnected { taken } => disconnected(taken),
         Received::Version { version, taken } => version_told(version, taken),
     }
-    print::text(b"\n");
 }
 
 fn stored(taken: usize) {
@@ -76,9 +80,13 @@ fn delivery(lent: &[u8], endpoint: u32, dtls: Bounds, taken: usize) {
     print::text(b"delivery");
     print::count(b"endpoint", endpoint as usize);
     print::part(b"dtls", octets::part_in(lent, dtls));
-    print::count(b"start", dtls.start);
-    print::count(b"end", dtls.end);
+    bounds(dtls.start, dtls.end);
     messages::took(taken);
+}
+
+fn bounds(start: usize, end: usize) {
+    print::count(b"start", start);
+    print::count(b"end", end);
 }
 
 fn disconnected(taken: usize) {

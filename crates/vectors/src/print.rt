@@ -8,6 +8,15 @@ pub fn text(s: &[u8]) {
     io::write_all(STDOUT_FILENO, s);
 }
 
+// Between what was asked and the answer.
+pub fn colon() {
+    text(b": ");
+}
+
+pub fn end_line() {
+    text(b"\n");
+}
+
 pub fn decimal(n: u64) {
     io::print_decimal(STDOUT_FILENO, n);
 }

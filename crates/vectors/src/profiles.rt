@@ -27,9 +27,9 @@ pub fn cases() {
 fn key_length(profile: u16) {
     print::text(b"key length of ");
     print::number16(profile);
-    print::text(b": ");
+    print::colon();
     print::decimal(message::key_length(profile) as u64);
-    print::text(b"\n");
+    print::end_line();
 }
 
 // The front of a list of two entries.

@@ -7,7 +7,7 @@ use distributor::Record;
 use distributor::RecordKeys;
 
 pub fn looked(l: Looked) {
-    print::text(b": ");
+    print::colon();
     let answer = l.answer;
     match answer {
         Found::Refused { number } => refused(number),
@@ -17,39 +17,53 @@ pub fn looked(l: Looked) {
 
 fn refused(number: u8) {
     print::refusal(number);
-    print::text(b"\n");
+    print::end_line();
 }
 
 fn record(r: Record) {
-    print::text(b"found");
-    print::part(b"identifier", &r.identifier);
-    print::count(b"endpoint", r.endpoint as usize);
-    print::text(b" keyed");
-    print::yes_or_no(r.keyed);
+    whose(&r.identifier, r.endpoint, r.keyed);
     keys(r.keys);
+}
+
+fn whose(identifier: &[u8], endpoint: u32, keyed: bool) {
+    print::text(b"found");
+    print::part(b"identifier", identifier);
+    print::count(b"endpoint", endpoint as usize);
+    print::text(b" keyed");
+    print::yes_or_no(keyed);
 }
 
 fn keys(k: RecordKeys) {
     profile(k.profile);
-    field(b"mki", k.mki_length, &k.mki);
-    field(b"client key", k.client_key_length, &k.client_key);
-    field(b"server key", k.server_key_length, &k.server_key);
-    field(b"client salt", k.client_salt_length, &k.client_salt);
-    field(b"server salt", k.server_salt_length, &k.server_salt);
+    mki(k.mki_length, &k.mki);
+    key(k.client_key_length, &k.client_key);
+    key(k.server_key_length, &k.server_key);
+    salt(k.client_salt_length, &k.client_salt);
+    salt(k.server_salt_length, &k.server_salt);
+}
+
+fn mki(length: u8, octets: &[u8]) {
+    field(b"  mki", length, octets);
+}
+
+// The client's, then the server's.
+fn key(length: u8, octets: &[u8]) {
+    field(b"  key", length, octets);
+}
+
+fn salt(length: u8, octets: &[u8]) {
+    field(b"  salt", length, octets);
 }
 
 fn profile(number: u16) {
     print::text(b"  profile ");
     print::number16(number);
-    print::text(b"\n");
+    print::end_line();
 }
 
 fn field(name: &[u8], length: u8, octets: &[u8]) {
-    print::text(b"  ");
     print::text(name);
-    print::text(b" of");
-    print::number(length as usize);
-    print::text(b" ");
-    print::bracketed(octets);
-    print::text(b"\n");
+    print::count(b"length", length as usize);
+    print::part(b"octets", octets);
+    print::end_line();
 }

@@ -12,16 +12,20 @@ pub fn cases() {
 
 // P10: both sides of each limit between kinds.
 fn worked() {
-    first(b"P10", 1);
-    first(b"P10", 2);
-    first(b"P10", 19);
-    first(b"P10", 20);
-    first(b"P10", 63);
-    first(b"P10", 64);
-    first(b"P10", 127);
-    first(b"P10", 128);
-    first(b"P10", 191);
-    first(b"P10", 192);
+    edge(1);
+    edge(2);
+    edge(19);
+    edge(20);
+    edge(63);
+    edge(64);
+    edge(127);
+    edge(128);
+    edge(191);
+    edge(192);
+}
+
+fn edge(octet: u8) {
+    first(b"P10", octet);
 }
 
 fn every_first() {
@@ -45,7 +49,7 @@ fn sorted(packet: &[u8]) {
         Sorted::Empty => print::refusal(octets::refusal::EMPTY_PACKET),
         Sorted::Packet(kind) => named(kind),
     }
-    print::text(b"\n");
+    print::end_line();
 }
 
 fn named(kind: Kind) {

@@ -4,7 +4,7 @@ use ekt::Tag;
 
 // The end of a line: the tag, and the parts that are lent from the packet.
 pub fn split(packet: &[u8]) {
-    print::text(b": ");
+    print::colon();
     match ekt::split(packet) {
         Tag::NoTag => print::refusal(octets::refusal::NO_TAG),
         Tag::Short { start: _ } => short(packet),
@@ -20,7 +20,7 @@ pub fn split(packet: &[u8]) {
             end: _,
         } => extension(packet, message_type),
     }
-    print::text(b"\n");
+    print::end_line();
 }
 
 fn short(packet: &[u8]) {

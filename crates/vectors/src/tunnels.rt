@@ -29,11 +29,13 @@ fn starts() {
     start(1, &BOTH);
     start(2, b"\x00\x0A");
     let mut state = distributor::first_state();
-    calls::start(&mut state, &BOTH, 9);
-    calls::start(&mut state, &BOTH, 10);
-    calls::start(&mut state, &BOTH, 10);
-    calls::end(&mut state);
-    calls::start(&mut state, b"\x00\x09", 8);
+    start_both(&mut state, 9);
+    start_both(&mut state, 10);
+    start_both(&mut state, 10);
+}
+
+fn start_both(state: &mut [u8; BLOCK], room: usize) {
+    calls::start(state, &BOTH, room);
 }
 
 fn start(number: u64, list: &[u8]) {
@@ -50,11 +52,15 @@ fn worked(number: u64) {
 
 // Empty, of odd length, with a repeat, with an entry that is none of ours.
 fn bad_lists() {
+    bad_list(b"");
+    bad_list(b"\x00\x09\x00");
+    bad_list(b"\x00\x09\x00\x09");
+    bad_list(b"\x00\x09\x00\x01");
+}
+
+fn bad_list(list: &[u8]) {
     let mut state = distributor::first_state();
-    calls::start(&mut state, b"", 64);
-    calls::start(&mut state, b"\x00\x09\x00", 64);
-    calls::start(&mut state, b"\x00\x09\x00\x09", 64);
-    calls::start(&mut state, b"\x00\x09\x00\x01", 64);
+    calls::start(&mut state, list, 64);
 }
 
 fn versions() {
@@ -82,11 +88,18 @@ fn octets(number: u64, lent: &[u8]) {
 // Every call but Start.
 fn down() {
     let mut state = distributor::first_state();
-    let identifier = associations::identifier(0);
-    calls::open(&mut state, &identifier, 7);
-    calls::booth_packet(&state, 7, b"\x14", 64);
-    calls::tunnel_octets(&mut state, b"\x06\x00\x00");
-    calls::close(&mut state, &identifier, 64);
+    associations::open(&mut state, 0, 7);
+    unsorted(&state);
+    unread(&mut state);
+    associations::close(&mut state, 0, 64);
     calls::end(&mut state);
     calls::look(&state, 7);
+}
+
+fn unsorted(state: &[u8; BLOCK]) {
+    calls::booth_packet(state, 7, b"\x14", 64);
+}
+
+fn unread(state: &mut [u8; BLOCK]) {
+    calls::tunnel_octets(state, b"\x06\x00\x00");
 }

@@ -25,7 +25,7 @@ pub fn refused(number: u8, out: &[u8]) {
     print::text(b" ");
     print::refusal(number);
     print::part(b"front", octets::part(out, 0, 3));
-    print::text(b"\n");
+    print::end_line();
 }
 
 // The whole output is read back, with the octets behind the message.
