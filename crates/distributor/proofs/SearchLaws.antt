@@ -1,7 +1,7 @@
 -- Laws of searching a list, and of lists that are mapped.
 use Prim.Native.Nat.{ℕ, zero, suc, _<_}
 use mathlib.Core.Path.{_≡_, refl, sym, ap, _∙_}
-use mathlib.Core.Bool.{Bool, true, false, cond, _||_}
+use mathlib.Core.Bool.{Bool, true, false, cond, _&&_, _||_}
 use mathlib.Core.List.{List, [], _∷_, map}
 use native.Mathlib.Nat.{le-of-suc-le-suc, not-suc-le-zero}
 use lib.Dec.{ltb, leb·suc-suc, leb·zero, leb·suc-zero}
@@ -51,3 +51,13 @@ module _ {A B : Type 0} (f : A → B) where
   pub map-replicate : (k : ℕ) (x : A) → map f (replicate k x) ≡ replicate k (f x)
   map-replicate zero x = refl
   map-replicate (suc k) x = ap (λ (l : List B). f x ∷ l) (map-replicate k x)
+
+-- ---- two tests of a row, the second made first
+
+pub second-holds : (a : Bool) {b : Bool} → b ≡ true → a ≡ (a && b)
+second-holds true e = sym e
+second-holds false e = refl
+
+pub second-fails : (a : Bool) {b : Bool} → b ≡ false → false ≡ (a && b)
+second-fails true e = sym e
+second-fails false e = refl

@@ -9,6 +9,7 @@ use lib.Dec.{ltb, eqb}
 use lib.ListN.{length, length-append}
 use Rattle.octets.proofs.Tests.{both, false-true}
 use Rattle.octets.proofs.RangeLaws.{inside}
+use Rattle.octets.specs.Part.{part}
 use Rattle.octets.proofs.PartLaws.{part-length}
 use Rattle.demux.specs.Sorting.{sorting}
 use Rattle.message.specs.Limits.{width, header, most16}
@@ -17,17 +18,18 @@ use Rattle.message.specs.Profiles.{entries, sound, goodList}
 use Rattle.message.specs.Write as Write
 use Rattle.message.proofs.VerdictLaws.{Fits, encode-length, output-written}
 use Rattle.distributor.specs.Limits.{places, listLimit, packetLimit}
-use Rattle.distributor.specs.Layout.{up, blockLength, rowOf, identifierOf, identifierAt, vacantRow, withRow, upBlock}
+use Rattle.distributor.specs.Layout.{up, blockLength, rowOf, identifierOf, identifierAt, padded, vacantRow, withRow, upBlock}
 use Rattle.distributor.specs.Verdict.{Verdict, allowed, refusal, after}
 use Rattle.distributor.specs.Answer.{Answer, wrote, answered}
-use Rattle.distributor.specs.Outcomes.{checkOf, Sends, sent}
+use Rattle.distributor.specs.Outcomes.{checked, Sends, sent}
 use Rattle.distributor.specs.Refusals.{wrongWidth, noRoom, notDtls, tooLong, startMessage}
 use Rattle.distributor.specs.Table.{placeOfIdentifier, placeOfEndpoint, knows, serves, startVerdict, startAnswer, startNext, packetMessage, packetVerdict, packetAnswer, closeVerdict, closeAnswer, closeNext, without}
 use Rattle.distributor.specs.declared.check.Check.{Check}
 use Rattle.distributor.specs.declared.sending.Sent.{Sent}
 use Rattle.distributor.proofs.RowsLaws.{row-length}
 use Rattle.distributor.proofs.ListRoom.{good-list-room}
-use Rattle.distributor.proofs.VerdictLaws.{passed}
+use Rattle.distributor.proofs.FieldLaws.{padded-whole}
+use Rattle.distributor.proofs.VerdictLaws.{passed, told-allowed, told-refused}
 use Rattle.distributor.proofs.ViewVerdicts.{start-passed, close-passed, packet-passed}
 
 -- ---- what hangs on a verdict
@@ -83,14 +85,16 @@ start-fits s list room h =
     }
 
 module _ (s list out : List ℕ) where
-  pub start-refused : {r : Check} (n : ℕ) → r ≡ Check.Refused n → checkOf r ≡ startVerdict s list (length out)
+  pub start-refused : {r : Check} (n : ℕ) → r ≡ Check.Refused n → r ≡ checked (startVerdict s list (length out)) 0
       → Sends (startAnswer s list (length out)) out out (Sent.Refused n) × (s ≡ startNext s list (length out))
   unfolding startAnswer startNext
-  start-refused n t v = (not-sent _ n _ out (sym (ap checkOf t) ∙ v), kept _ n _ s (sym (ap checkOf t) ∙ v))
+  start-refused n t v =
+      let w = told-refused (startVerdict s list (length out)) 0 t v in
+      (not-sent _ n _ out w, kept _ n _ s w)
 
-  module _ {r : Check} (t : r ≡ Check.Allowed) (v : checkOf r ≡ startVerdict s list (length out)) where
+  module _ {r : Check} {n : ℕ} (t : r ≡ Check.Allowed n) (v : r ≡ checked (startVerdict s list (length out)) 0) where
     start-allowed : allowed ≡ startVerdict s list (length out)
-    start-allowed = sym (ap checkOf t) ∙ v
+    start-allowed = told-allowed (startVerdict s list (length out)) 0 t v .0
 
     pub start-room : length list ≤ listLimit
     start-room = good-list-room list (start-passed s list (length out) (sym start-allowed))
@@ -123,25 +127,27 @@ close-fits s i room h =
     record { wide = n; fits = record { identifier = w; fields = refl; limit = omega (arith, n); there = r } }
 
 module _ (s i out : List ℕ) where
-  pub close-refused : {r : Check} (n : ℕ) → r ≡ Check.Refused n → checkOf r ≡ closeVerdict s i (length out)
+  pub close-refused : {r : Check} (n : ℕ) → r ≡ Check.Refused n → r ≡ checked (closeVerdict s i (length out)) (placeOfIdentifier s i)
       → Sends (closeAnswer s i (length out)) out out (Sent.Refused n) × (s ≡ closeNext s i (length out))
   unfolding closeAnswer closeNext
-  close-refused n t v = (not-sent _ n _ out (sym (ap checkOf t) ∙ v), kept _ n _ s (sym (ap checkOf t) ∙ v))
+  close-refused n t v =
+      let w = told-refused (closeVerdict s i (length out)) (placeOfIdentifier s i) t v in
+      (not-sent _ n _ out w, kept _ n _ s w)
 
-  module _ {r : Check} (t : r ≡ Check.Allowed) (v : checkOf r ≡ closeVerdict s i (length out)) (n : ℕ) (e : n ≡ placeOfIdentifier s i) where
-    close-allowed : allowed ≡ closeVerdict s i (length out)
-    close-allowed = sym (ap checkOf t) ∙ v
+  module _ {r : Check} {n : ℕ} (t : r ≡ Check.Allowed n) (v : r ≡ checked (closeVerdict s i (length out)) (placeOfIdentifier s i)) where
+    close-told : (allowed ≡ closeVerdict s i (length out)) × (n ≡ placeOfIdentifier s i)
+    close-told = told-allowed (closeVerdict s i (length out)) (placeOfIdentifier s i) t v
 
     pub close-place : n < places
-    close-place = there n (placeOfIdentifier s i) e (close-passed s i (length out) (sym close-allowed))
+    close-place = there n (placeOfIdentifier s i) (close-told .1) (close-passed s i (length out) (sym (close-told .0)))
 
     pub close-done : (new block : List ℕ) → new ≡ Write.output (endpointDisconnect i) out → block ≡ withRow s n vacantRow
         → Sends (closeAnswer s i (length out)) out new (Sent.Written (header + width)) × (block ≡ closeNext s i (length out))
     unfolding closeAnswer closeNext
     close-done new block o b =
-        let f = close-fits s i (length out) (sym close-allowed) in (
-          was-sent _ (endpointDisconnect i) _ out new close-allowed (f .fits) (close-length i (f .wide)) o,
-          b ∙ ap (λ (k : ℕ). withRow s k vacantRow) e ∙ changed _ (without s i) s close-allowed,
+        let f = close-fits s i (length out) (sym (close-told .0)) in (
+          was-sent _ (endpointDisconnect i) _ out new (close-told .0) (f .fits) (close-length i (f .wide)) o,
+          b ∙ ap (λ (k : ℕ). withRow s k vacantRow) (close-told .1) ∙ changed _ (without s i) s (close-told .0),
         )
 
 -- ---- Booth packet
@@ -189,22 +195,33 @@ module _ (s : List ℕ) (l : length s ≡ blockLength) (e : ℕ) (packet : List 
         there = r;
       }
 
-  module _ (out : List ℕ) {r : Check} (t : r ≡ Check.Allowed) (v : checkOf r ≡ packetVerdict s e packet (length out)) (n : ℕ) (f : n ≡ placeOfEndpoint s e) where
-    packet-allowed : allowed ≡ packetVerdict s e packet (length out)
-    packet-allowed = sym (ap checkOf t) ∙ v
+  module _ (out : List ℕ) {r : Check} {n : ℕ} (t : r ≡ Check.Allowed n) (v : r ≡ checked (packetVerdict s e packet (length out)) (placeOfEndpoint s e)) where
+    packet-told : (allowed ≡ packetVerdict s e packet (length out)) × (n ≡ placeOfEndpoint s e)
+    packet-told = told-allowed (packetVerdict s e packet (length out)) (placeOfEndpoint s e) t v
+
+    packet-served : serves s e ≡ true
+    packet-served = packet-passed s e packet (length out) (sym (packet-told .0))
 
     pub packet-place : n < places
-    packet-place = there n (placeOfEndpoint s e) f (packet-passed s e packet (length out) (sym packet-allowed))
+    packet-place = there n (placeOfEndpoint s e) (packet-told .1) packet-served
 
-    pub packet-done : (new i row : List ℕ) → new ≡ Write.output (tunneledDtls i packet) out → i ≡ identifierOf row → row ≡ rowOf s n
+    -- the identifier that the message has is that of the endpoint's row
+    packet-identifier : (i row : List ℕ) → i ≡ padded width (part row identifierAt (identifierAt + width)) → row ≡ rowOf s n
+        → i ≡ identifierOf (rowOf s (placeOfEndpoint s e))
+    unfolding identifierOf
+    packet-identifier i row j k =
+        j
+        ∙ ap (λ (r : List ℕ). padded width (part r identifierAt (identifierAt + width))) (k ∙ ap (rowOf s) (packet-told .1))
+        ∙ padded-whole width _ (served-width packet-served)
+
+    pub packet-done : (new i row : List ℕ) → new ≡ Write.output (tunneledDtls i packet) out → i ≡ padded width (part row identifierAt (identifierAt + width)) → row ≡ rowOf s n
         → Sends (packetAnswer s e packet (length out)) out new (Sent.Written (header + width + 2 + length packet))
     unfolding packetAnswer packetMessage
     packet-done new i row o j k =
-        let g = j ∙ ap identifierOf (k ∙ ap (rowOf s) f) in
-        was-sent _ (packetMessage s e packet) _ out new packet-allowed (packet-fits (length out) (sym packet-allowed)) (packet-length (packet-passed s e packet (length out) (sym packet-allowed)))
-        (o ∙ ap (λ (x : List ℕ). Write.output (tunneledDtls x packet) out) g)
+        was-sent _ (packetMessage s e packet) _ out new (packet-told .0) (packet-fits (length out) (sym (packet-told .0))) (packet-length packet-served)
+        (o ∙ ap (λ (x : List ℕ). Write.output (tunneledDtls x packet) out) (packet-identifier i row j k))
 
 pub packet-refused : (s : List ℕ) (e : ℕ) (packet out : List ℕ) {r : Check} (n : ℕ) → r ≡ Check.Refused n
-    → checkOf r ≡ packetVerdict s e packet (length out) → Sends (packetAnswer s e packet (length out)) out out (Sent.Refused n)
+    → r ≡ checked (packetVerdict s e packet (length out)) (placeOfEndpoint s e) → Sends (packetAnswer s e packet (length out)) out out (Sent.Refused n)
 unfolding packetAnswer
-packet-refused s e packet out n t v = not-sent _ n _ out (sym (ap checkOf t) ∙ v)
+packet-refused s e packet out n t v = not-sent _ n _ out (told-refused (packetVerdict s e packet (length out)) (placeOfEndpoint s e) t v)

@@ -1,6 +1,6 @@
 -- Laws of verdicts: what an allowed call has passed, and what hangs on a verdict.
 use Prim.Native.Nat.{ℕ}
-use mathlib.Core.Path.{_≡_, refl}
+use mathlib.Core.Path.{_≡_, refl, ap}
 use mathlib.Core.Bool.{Bool, true, false, cond, not}
 use mathlib.Core.List.{List}
 use lib.Dec.{eqb}
@@ -10,7 +10,9 @@ use Rattle.message.specs.declared.bodies.KeyLengths.{KeyLengths}
 use Rattle.distributor.specs.Layout.{listOf}
 use Rattle.distributor.specs.Verdict.{Verdict, allowed, refusal, refuse}
 use Rattle.distributor.specs.Answer.{Answer, answered}
+use Rattle.distributor.specs.Outcomes.{checked}
 use Rattle.distributor.specs.Table.{knows, keysVerdict}
+use Rattle.distributor.specs.declared.check.Check.{Check}
 
 pub not-allowed : {n : ℕ} → refusal n ≡ allowed → ⊥
 not-allowed e = let z : _≡_ {A = ℕ} 0 1 = cc in omega arith
@@ -18,6 +20,15 @@ not-allowed e = let z : _≡_ {A = ℕ} 0 1 = cc in omega arith
 pub passed : (b : Bool) (n : ℕ) (v : Verdict) → refuse b n v ≡ allowed → (b ≡ false) × (v ≡ allowed)
 passed true n v h = absurd (not-allowed h)
 passed false n v h = (refl, h)
+
+-- what a check tells: the verdict, and the place
+pub told-allowed : (v : Verdict) (p : ℕ) {n : ℕ} {r : Check} → r ≡ Check.Allowed n → r ≡ checked v p → (allowed ≡ v) × (n ≡ p)
+told-allowed allowed p {n} t h = (refl, cc)
+told-allowed (refusal m) p {n} t h = let z : _≡_ {A = ℕ} 0 1 = cc in absurd (omega arith)
+
+pub told-refused : (v : Verdict) (p : ℕ) {n : ℕ} {r : Check} → r ≡ Check.Refused n → r ≡ checked v p → refusal n ≡ v
+told-refused allowed p {n} t h = let z : _≡_ {A = ℕ} 0 1 = cc in absurd (omega arith)
+told-refused (refusal m) p {n} t h = let e : n ≡ m = cc in ap refusal e
 
 -- an answer need only be known where the call is allowed
 pub answered-same : (v : Verdict) (taken : ℕ) {a b : Answer} → (v ≡ allowed → a ≡ b) → answered v taken a ≡ answered v taken b

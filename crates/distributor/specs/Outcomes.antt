@@ -17,9 +17,10 @@ use Rattle.message.specs.Frame as Frame
 use Rattle.message.specs.Limits.{header}
 use Rattle.message.specs.declared.framing.Kind.{Kind}
 
-abbrev pub checkOf : Check → Verdict
-checkOf Check.Allowed = allowed
-checkOf (Check.Refused number) = refusal number
+-- a verdict, with the place of the association that an allowed call is about
+abbrev pub checked : Verdict → (place : ℕ) → Check
+checked allowed place = Check.Allowed place
+checked (refusal number) place = Check.Refused number
 
 abbrev pub endedOf : Ended → Answer
 endedOf (Ended.Refused number) = refused number 0

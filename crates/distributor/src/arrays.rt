@@ -1,4 +1,4 @@
-// Parts of a row as arrays by value.
+// Parts of a slice as arrays by value, with zeros behind where there are fewer octets.
 ghost use mathlib.Core.Path.{_≡_};
 ghost use Prim.Native.Nat.{_+_};
 ghost use Rattle.octets.specs.Part.{part};
@@ -9,11 +9,7 @@ pub fn array16(s: &[u8], at: usize) -> [u8; 16]
 {
     let tail = octets::part(s, at, s.len());
     let mut a = [0; 16];
-    let mut i = 0;
-    while i < 16 {
-        a[i] = octets::octet(tail, i);
-        i += 1;
-    }
+    octets::put_octets(&mut a, 0, octets::part(tail, 0, 16));
     a
 }
 
@@ -22,10 +18,6 @@ pub fn array32(s: &[u8], at: usize) -> [u8; 32]
 {
     let tail = octets::part(s, at, s.len());
     let mut a = [0; 32];
-    let mut i = 0;
-    while i < 32 {
-        a[i] = octets::octet(tail, i);
-        i += 1;
-    }
+    octets::put_octets(&mut a, 0, octets::part(tail, 0, 32));
     a
 }

@@ -2,7 +2,8 @@
 ghost use mathlib.Core.Path.{_≡_};
 
 pub enum Check {
-    Allowed,
+    // For the association at a place; Start is about none, and has 0.
+    Allowed { place: usize },
     Refused { number: u8 },
 }
 

@@ -14,11 +14,11 @@ ghost use mathlib.Core.Path.{_≡_};
 ghost use lib.ListN.{length};
 ghost use Rattle.distributor.specs.Layout.{blockLength};
 ghost use Rattle.distributor.specs.Table as Spec;
-ghost use Rattle.distributor.specs.Outcomes.{checkOf, Sends};
+ghost use Rattle.distributor.specs.Outcomes.{checked, Sends};
 
 fn check_close(state: &[u8], identifier: &[u8], room: usize) -> Check
     requires { ⌜ length (now state) ≡ blockLength ⌝ }
-    ensures { λ r. ⌜ checkOf r ≡ Spec.closeVerdict (now (state .entry)) (now (identifier .entry)) room ⌝ }
+    ensures { λ r. ⌜ r ≡ checked (Spec.closeVerdict (now (state .entry)) (now (identifier .entry)) room) (Spec.placeOfIdentifier (now (state .entry)) (now (identifier .entry))) ⌝ }
 {
     if !is_up(state) {
         return refused(refusal::TUNNEL_DOWN);
@@ -26,13 +26,14 @@ fn check_close(state: &[u8], identifier: &[u8], room: usize) -> Check
     if identifier.len() != WIDTH {
         return refused(refusal::IDENTIFIER_LENGTH);
     }
-    if PLACES <= place_of_identifier(state, identifier) {
+    let place = place_of_identifier(state, identifier);
+    if PLACES <= place {
         return refused(refusal::NO_ASSOCIATION);
     }
     if room < HEADER + WIDTH {
         return refused(refusal::NO_ROOM);
     }
-    Check::Allowed
+    Check::Allowed { place }
 }
 
 fn close_in(state: &mut [u8], identifier: &[u8], out: &mut [u8]) -> Sent
@@ -40,9 +41,8 @@ fn close_in(state: &mut [u8], identifier: &[u8], out: &mut [u8]) -> Sent
     ensures { λ r. ⌜ Sends (Spec.closeAnswer (now (state .entry)) (now (identifier .entry)) (length (now (out .entry)))) (now (out .entry)) (now (out .exit)) r × (now (state .exit) ≡ Spec.closeNext (now (state .entry)) (now (identifier .entry)) (length (now (out .entry)))) ⌝ }
 {
     match check_close(state, identifier, out.len()) {
-        Check::Allowed => {
+        Check::Allowed { place } => {
             message::write_endpoint_disconnect(identifier, out);
-            let place = place_of_identifier(state, identifier);
             put_vacant(state, place);
             Sent::Written {
                 count: HEADER + WIDTH,

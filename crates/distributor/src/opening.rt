@@ -14,7 +14,7 @@ ghost use mathlib.Core.Path.{_≡_};
 ghost use lib.ListN.{length};
 ghost use Rattle.distributor.specs.Layout.{blockLength};
 ghost use Rattle.distributor.specs.Table as Spec;
-ghost use Rattle.distributor.specs.Outcomes.{checkOf, openedOf};
+ghost use Rattle.distributor.specs.Outcomes.{checked, openedOf};
 
 pub enum Opened {
     Refused { number: u8 },
@@ -23,7 +23,7 @@ pub enum Opened {
 
 fn check_open(state: &[u8], identifier: &[u8], endpoint: u32) -> Check
     requires { ⌜ length (now state) ≡ blockLength ⌝ }
-    ensures { λ r. ⌜ checkOf r ≡ Spec.openVerdict (now (state .entry)) (now (identifier .entry)) endpoint ⌝ }
+    ensures { λ r. ⌜ r ≡ checked (Spec.openVerdict (now (state .entry)) (now (identifier .entry)) endpoint) (Spec.vacantPlace (now (state .entry))) ⌝ }
 {
     if !is_up(state) {
         return refused(refusal::TUNNEL_DOWN);
@@ -37,8 +37,9 @@ fn check_open(state: &[u8], identifier: &[u8], endpoint: u32) -> Check
     if place_of_endpoint(state, endpoint) < PLACES {
         return refused(refusal::ENDPOINT_LIVE);
     }
-    if vacant_place(state) < PLACES {
-        return Check::Allowed;
+    let place = vacant_place(state);
+    if place < PLACES {
+        return Check::Allowed { place };
     }
     refused(refusal::TABLE_FULL)
 }
@@ -48,8 +49,7 @@ fn open_in(state: &mut [u8], identifier: &[u8], endpoint: u32) -> Opened
     ensures { λ r. ⌜ (openedOf r ≡ Spec.openAnswer (now (state .entry)) (now (identifier .entry)) endpoint) × (now (state .exit) ≡ Spec.openNext (now (state .entry)) (now (identifier .entry)) endpoint) ⌝ }
 {
     match check_open(state, identifier, endpoint) {
-        Check::Allowed => {
-            let place = vacant_place(state);
+        Check::Allowed { place } => {
             put_open(state, place, identifier, endpoint);
             Opened::At { place }
         }

@@ -93,9 +93,10 @@ fn list_of(state: &[u8]) -> &[u8]
 
 fn check_keys(state: &[u8], identifier: &[u8], profile: u16, lengths: KeyLengths) -> Check
     requires { ⌜ length (now state) ≡ Layout.blockLength ⌝ }
-    ensures { λ r. ⌜ Out.checkOf r ≡ Spec.keysVerdict (now (state .entry)) (now (identifier .entry)) profile lengths ⌝ }
+    ensures { λ r. ⌜ r ≡ Out.checked (Spec.keysVerdict (now (state .entry)) (now (identifier .entry)) profile lengths) (Spec.placeOfIdentifier (now (state .entry)) (now (identifier .entry))) ⌝ }
 {
-    if PLACES <= place_of_identifier(state, identifier) {
+    let place = place_of_identifier(state, identifier);
+    if PLACES <= place {
         return refused(refusal::NO_ASSOCIATION);
     }
     if !message::in_list(profile, list_of(state)) {
@@ -107,7 +108,7 @@ fn check_keys(state: &[u8], identifier: &[u8], profile: u16, lengths: KeyLengths
     if !message::mki_and_salts_fit(lengths) {
         return refused(refusal::MKI_OR_SALT_LENGTH);
     }
-    Check::Allowed
+    Check::Allowed { place }
 }
 
 // MediaKeys: all key fields are replaced, or none.
@@ -123,8 +124,7 @@ fn take_keys(
 {
     let identifier = octets::part(s, HEADER, HEADER + WIDTH);
     match check_keys(state, identifier, profile, lengths) {
-        Check::Allowed => {
-            let place = place_of_identifier(state, identifier);
+        Check::Allowed { place } => {
             put_keys(state, place, s, profile, lengths);
             Received::KeysStored { taken }
         }

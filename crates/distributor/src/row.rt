@@ -27,11 +27,17 @@ pub fn endpoint_of(row: &[u8]) -> u32
 pub fn is_named(row: &[u8], identifier: &[u8]) -> bool
     ensures { λ r. ⌜ r ≡ Spec.named (now (identifier .entry)) (now (row .entry)) ⌝ }
 {
-    is_live(row) & octets::same(identifier_of(row), identifier)
+    if octets::same(identifier_of(row), identifier) {
+        return is_live(row);
+    }
+    false
 }
 
 pub fn is_serving(row: &[u8], endpoint: u32) -> bool
     ensures { λ r. ⌜ r ≡ Spec.serving endpoint (now (row .entry)) ⌝ }
 {
-    is_live(row) & (endpoint_of(row) == endpoint)
+    if endpoint_of(row) == endpoint {
+        return is_live(row);
+    }
+    false
 }

@@ -1,11 +1,12 @@
 // Booth packet, and what calls that write answer.
+use crate::arrays::array16;
 use crate::block::BLOCK;
+use crate::block::IDENTIFIER;
 use crate::block::PLACES;
 use crate::block::is_up;
 use crate::block::row_at;
 use crate::check::Check;
 use crate::check::refused;
-use crate::row::identifier_of;
 use crate::search::place_of_endpoint;
 use demux::Kind;
 use demux::Sorted;
@@ -18,7 +19,7 @@ ghost use lib.ListN.{length};
 ghost use Rattle.distributor.specs.Layout.{blockLength};
 ghost use Rattle.distributor.specs.Refusals.{notDtls};
 ghost use Rattle.distributor.specs.Table as Spec;
-ghost use Rattle.distributor.specs.Outcomes.{checkOf, Sends};
+ghost use Rattle.distributor.specs.Outcomes.{checked, Sends};
 
 pub enum Sent {
     Refused { number: u8 },
@@ -44,12 +45,13 @@ fn is_not_dtls(packet: &[u8]) -> bool
 
 fn check_packet(state: &[u8], endpoint: u32, packet: &[u8], room: usize) -> Check
     requires { ⌜ length (now state) ≡ blockLength ⌝ }
-    ensures { λ r. ⌜ checkOf r ≡ Spec.packetVerdict (now (state .entry)) endpoint (now (packet .entry)) room ⌝ }
+    ensures { λ r. ⌜ r ≡ checked (Spec.packetVerdict (now (state .entry)) endpoint (now (packet .entry)) room) (Spec.placeOfEndpoint (now (state .entry)) endpoint) ⌝ }
 {
     if !is_up(state) {
         return refused(refusal::TUNNEL_DOWN);
     }
-    if PLACES <= place_of_endpoint(state, endpoint) {
+    let place = place_of_endpoint(state, endpoint);
+    if PLACES <= place {
         return refused(refusal::NO_ASSOCIATION);
     }
     if is_not_dtls(packet) {
@@ -61,7 +63,7 @@ fn check_packet(state: &[u8], endpoint: u32, packet: &[u8], room: usize) -> Chec
     if room < HEADER + WIDTH + 2 + packet.len() {
         return refused(refusal::NO_ROOM);
     }
-    Check::Allowed
+    Check::Allowed { place }
 }
 
 fn packet_in(state: &[u8], endpoint: u32, packet: &[u8], out: &mut [u8]) -> Sent
@@ -69,9 +71,9 @@ fn packet_in(state: &[u8], endpoint: u32, packet: &[u8], out: &mut [u8]) -> Sent
     ensures { λ r. ⌜ Sends (Spec.packetAnswer (now (state .entry)) endpoint (now (packet .entry)) (length (now (out .entry)))) (now (out .entry)) (now (out .exit)) r ⌝ }
 {
     match check_packet(state, endpoint, packet, out.len()) {
-        Check::Allowed => {
-            let place = place_of_endpoint(state, endpoint);
-            message::write_tunneled_dtls(identifier_of(row_at(state, place)), packet, out);
+        Check::Allowed { place } => {
+            let identifier = array16(row_at(state, place), IDENTIFIER);
+            message::write_tunneled_dtls(&identifier, packet, out);
             Sent::Written {
                 count: HEADER + WIDTH + 2 + packet.len(),
             }

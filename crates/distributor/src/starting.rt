@@ -11,10 +11,10 @@ ghost use mathlib.Core.Path.{_≡_};
 ghost use lib.ListN.{length};
 ghost use Rattle.distributor.specs.Layout.{blockLength};
 ghost use Rattle.distributor.specs.Table as Spec;
-ghost use Rattle.distributor.specs.Outcomes.{checkOf, Sends};
+ghost use Rattle.distributor.specs.Outcomes.{checked, Sends};
 
 fn check_start(state: &[u8], list: &[u8], room: usize) -> Check
-    ensures { λ r. ⌜ checkOf r ≡ Spec.startVerdict (now (state .entry)) (now (list .entry)) room ⌝ }
+    ensures { λ r. ⌜ r ≡ checked (Spec.startVerdict (now (state .entry)) (now (list .entry)) room) 0 ⌝ }
 {
     if is_up(state) {
         return refused(refusal::TUNNEL_UP);
@@ -25,7 +25,7 @@ fn check_start(state: &[u8], list: &[u8], room: usize) -> Check
     if room < HEADER + 3 + list.len() {
         return refused(refusal::NO_ROOM);
     }
-    Check::Allowed
+    Check::Allowed { place: 0 }
 }
 
 fn start_in(state: &mut [u8], list: &[u8], out: &mut [u8]) -> Sent
@@ -33,7 +33,7 @@ fn start_in(state: &mut [u8], list: &[u8], out: &mut [u8]) -> Sent
     ensures { λ r. ⌜ Sends (Spec.startAnswer (now (state .entry)) (now (list .entry)) (length (now (out .entry)))) (now (out .entry)) (now (out .exit)) r × (now (state .exit) ≡ Spec.startNext (now (state .entry)) (now (list .entry)) (length (now (out .entry)))) ⌝ }
 {
     match check_start(state, list, out.len()) {
-        Check::Allowed => {
+        Check::Allowed { place: _ } => {
             message::write_supported_profiles(0, list, out);
             put_up(state, list);
             Sent::Written {

@@ -6,13 +6,13 @@ use Rattle.distributor.proofs.closing.close_in.Tie as tie
 
 put-vacant-requires : tie.Need-put-vacant-requires
 put-vacant-requires c κs =
-    let a = c .before .before .before .before .before .before .before .before .before .before .before .before .before .before .args in
-    (c .before .before .before .before .before .before .before .before .before .before .before .before .before .before .pre, close-place (now (a .state)) (now (a .identifier)) (now (a .out)) (c .before .before .before .before .before .before .before .enum-told .given .1) (c .before .before .before .before .before .before .before .before .before .check-close .ensures) _ (c .before .place-of-identifier .ensures))
+    let a = c .before .before .before .before .before .before .before .before .before .before .before .before .before .args in
+    (c .before .before .before .before .before .before .before .before .before .before .before .before .before .pre, close-place (now (a .state)) (now (a .identifier)) (now (a .out)) (c .before .before .before .before .before .before .place .given .1) (c .before .before .before .before .before .before .before .before .check-close .ensures))
 
 returns : tie.Need-returns
 returns c =
-    let a = c .before .before .before .before .before .before .before .before .before .before .before .before .before .before .before .before .before .args in
-    close-done (now (a .state)) (now (a .identifier)) (now (a .out)) (c .before .before .before .before .before .before .before .before .before .before .enum-told .given .1) (c .before .before .before .before .before .before .before .before .before .before .before .before .check-close .ensures) _ (c .before .before .before .before .place-of-identifier .ensures) _ _ (c .before .before .before .before .before .before .before .before .write-endpoint-disconnect .ensures .1) (c .before .before .put-vacant .ensures)
+    let a = c .before .before .before .before .before .before .before .before .before .before .before .before .before .before .before .before .args in
+    close-done (now (a .state)) (now (a .identifier)) (now (a .out)) (c .before .before .before .before .before .before .before .before .before .place .given .1) (c .before .before .before .before .before .before .before .before .before .before .before .check-close .ensures) _ _ (c .before .before .before .before .before .before .write-endpoint-disconnect .ensures .1) (c .before .before .put-vacant .ensures)
 
 returns-2 : tie.Need-returns-2
 returns-2 c =
@@ -25,7 +25,6 @@ close-in-spec =
     (tie.spec
     (λ c κs. search needs)
     (λ c. search needs)
-    (λ c κs. search needs)
     (λ c κs. search needs)
     put-vacant-requires
     (λ c. search needs)

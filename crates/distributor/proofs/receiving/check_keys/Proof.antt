@@ -5,6 +5,7 @@ use borrow.Author.Tests.{lt-ltb, le-ltb, not-true, not-false}
 use Rattle.message.specs.Profiles.{inList}
 use Rattle.distributor.specs.Limits.{places}
 use Rattle.distributor.specs.Table as Spec
+use Rattle.distributor.specs.declared.check.Check.{Check}
 use borrow.Author.Needs.{needs}
 use Rattle.distributor.proofs.receiving.check_keys.Statement.{statement}
 use Rattle.distributor.proofs.receiving.check_keys.Tie as tie
@@ -55,7 +56,7 @@ returns-5 c =
       ap (inList _) (sym (c .before .before .before .before .before .before .list-of .ensures)) ∙ sym (c .before .before .before .before .before .in-list .ensures) ∙ not-false _ (c .before .before .before .before .if2 .left),
       sym (c .before .before .before .keys-fit .ensures) ∙ not-false _ (c .before .before .if3 .left),
       sym (c .before .mki-and-salts-fit .ensures) ∙ not-false _ (c .if4 .left),
-    )
+    ) (ap Check.Allowed (c .before .before .before .before .before .before .before .before .place-of-identifier .ensures))
 
 pub check-keys-spec : {M : Type 1} → statement M
 check-keys-spec =

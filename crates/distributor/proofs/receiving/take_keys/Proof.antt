@@ -1,12 +1,11 @@
-use native.Mathlib.Omega.{arith}
-use mathlib.Core.Path.{sym, ap, _∙_}
+use mathlib.Core.Path.{_≡_, sym, ap, _∙_}
 use denote.Ref.{now}
 use Prim.Native.Nat.{ℕ}
 use mathlib.Core.List.{List}
 use borrow.Author.Tests.{ltb-true}
-use Rattle.distributor.specs.Limits.{places}
-use Rattle.distributor.specs.Outcomes as Out
 use Rattle.distributor.specs.Table as Spec
+use Rattle.distributor.specs.Outcomes.{checked}
+use Rattle.distributor.proofs.VerdictLaws.{told-allowed, told-refused}
 use Rattle.distributor.proofs.ViewVerdicts.{keys-passed}
 use Rattle.distributor.proofs.ReceivingLaws.{keyed, not-keyed}
 use borrow.Author.Needs.{needs}
@@ -15,23 +14,24 @@ use Rattle.distributor.proofs.receiving.take_keys.Tie as tie
 
 put-keys-requires : tie.Need-put-keys-requires
 put-keys-requires c κs =
-    let a = c .before .before .before .before .before .before .before .before .before .before .args in
-    let i = now (c .before .before .before .before .before .before .before .part .result) in
-    let known = keys-passed (now (a .state)) i (a .profile) (a .lengths) (sym (ap Out.checkOf (sym (c .before .before .before .enum-told .given .1)) ∙ c .before .before .before .before .before .check-keys .ensures)) .known in
-    (c .before .before .before .before .before .before .before .before .before .before .pre, omega (arith, c .before .place-of-identifier .ensures, ltb-true (Spec.placeOfIdentifier (now (a .state)) i) places known))
+    let a = c .before .before .before .before .before .before .before .before .before .args in
+    let i = now (c .before .before .before .before .before .before .part .result) in
+    let v = told-allowed (Spec.keysVerdict (now (a .state)) i (a .profile) (a .lengths)) (Spec.placeOfIdentifier (now (a .state)) i) (c .before .before .place .given .1) (c .before .before .before .before .check-keys .ensures) in
+    (c .before .before .before .before .before .before .before .before .before .pre, rw (v .1) (ltb-true _ _ (keys-passed (now (a .state)) i (a .profile) (a .lengths) (sym (v .0)) .known)))
 
 returns : tie.Need-returns
 returns c =
-    let a = c .before .before .before .before .before .before .before .before .before .before .before .before .before .args in
-    let v = ap Out.checkOf (sym (c .before .before .before .before .before .before .enum-told .given .1)) ∙ c .before .before .before .before .before .before .before .before .check-keys .ensures ∙ ap (λ (i : List ℕ). Spec.keysVerdict (now (a .state)) i (a .profile) (a .lengths)) (c .before .before .before .before .before .before .before .before .before .before .part .ensures) in
-    let p = c .before .before .before .before .place-of-identifier .ensures ∙ ap (Spec.placeOfIdentifier (now (a .state))) (c .before .before .before .before .before .before .before .before .before .before .part .ensures) in
-    keyed (now (a .state)) (now (a .s)) (a .taken) (a .profile) (a .lengths) (c .before .before .before .before .place-of-identifier .result) p v (c .before .before .put-keys .ensures)
+    let a = c .before .before .before .before .before .before .before .before .before .before .before .before .args in
+    let s = now (a .state) in
+    let v = told-allowed (Spec.keysVerdict s _ (a .profile) (a .lengths)) (Spec.placeOfIdentifier s _) (c .before .before .before .before .before .place .given .1) (c .before .before .before .before .before .before .before .check-keys .ensures ∙ ap (λ (i : List ℕ). checked (Spec.keysVerdict s i (a .profile) (a .lengths)) (Spec.placeOfIdentifier s i)) (c .before .before .before .before .before .before .before .before .before .part .ensures)) in
+    keyed s (now (a .s)) (a .taken) (a .profile) (a .lengths) _ (v .1) (v .0) (c .before .before .put-keys .ensures)
 
 returns-2 : tie.Need-returns-2
 returns-2 c =
     let a = c .before .before .before .before .before .before .before .before .args in
-    let v = ap Out.checkOf (sym (c .before .number .given .1)) ∙ c .before .before .before .check-keys .ensures ∙ ap (λ (i : List ℕ). Spec.keysVerdict (now (a .state)) i (a .profile) (a .lengths)) (c .before .before .before .before .before .part .ensures) in
-    not-keyed (now (a .state)) (now (a .s)) (a .taken) (a .profile) (a .lengths) _ v
+    let s = now (a .state) in
+    let v = told-refused (Spec.keysVerdict s _ (a .profile) (a .lengths)) (Spec.placeOfIdentifier s _) (c .before .number .given .1) (c .before .before .before .check-keys .ensures ∙ ap (λ (i : List ℕ). checked (Spec.keysVerdict s i (a .profile) (a .lengths)) (Spec.placeOfIdentifier s i)) (c .before .before .before .before .before .part .ensures)) in
+    not-keyed s (now (a .s)) (a .taken) (a .profile) (a .lengths) _ v
 
 pub take-keys-spec : {M : Type 1} → statement M
 take-keys-spec =
@@ -41,7 +41,6 @@ take-keys-spec =
     (λ c κs. search needs)
     (λ c κs. search needs)
     (λ c. search needs)
-    (λ c κs. search needs)
     put-keys-requires
     (λ c. search needs)
     (λ c. search needs)

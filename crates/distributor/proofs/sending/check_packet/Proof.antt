@@ -6,6 +6,7 @@ use mathlib.Core.Bool.{not}
 use lib.Dec.{ltb}
 use Rattle.distributor.specs.Limits.{places}
 use Rattle.distributor.specs.Table as Spec
+use Rattle.distributor.specs.declared.check.Check.{Check}
 use Rattle.distributor.proofs.Sendable.{packet-length}
 use borrow.Author.Needs.{needs}
 use Rattle.distributor.proofs.sending.check_packet.Statement.{statement}
@@ -33,7 +34,7 @@ returns-5 c = rw (c .refused5 .ensures, ap not (sym (c .before .before .before .
 
 returns-6 : tie.Need-returns-6
 unfolding Spec.packetVerdict
-returns-6 c = rw (ap not (sym (c .before .before .before .before .before .before .before .is-up .ensures)) ∙ c .before .before .before .before .before .before .if1 .left, (ap (λ (n : ℕ). ltb n places) (sym (c .before .before .before .before .before .place-of-endpoint .ensures)) ∙ lt-ltb _ _ (c .before .before .before .before .if2 .left)), sym (c .before .before .before .is-not-dtls .ensures) ∙ c .before .before .if3 .left, le-ltb _ _ (c .before .if4 .left), packet-length (now (c .before .before .before .before .before .before .before .before .before .before .args .state)) (c .before .before .before .before .before .before .before .before .before .before .pre) (c .before .before .before .before .before .before .before .before .before .before .args .endpoint) (now (c .before .before .before .before .before .before .before .before .before .before .args .packet)) (ap (λ (n : ℕ). ltb n places) (sym (c .before .before .before .before .before .place-of-endpoint .ensures)) ∙ lt-ltb _ _ (c .before .before .before .before .if2 .left)), le-ltb _ _ (c .if5 .left))
+returns-6 c = rw (ap not (sym (c .before .before .before .before .before .before .before .is-up .ensures)) ∙ c .before .before .before .before .before .before .if1 .left, (ap (λ (n : ℕ). ltb n places) (sym (c .before .before .before .before .before .place-of-endpoint .ensures)) ∙ lt-ltb _ _ (c .before .before .before .before .if2 .left)), sym (c .before .before .before .is-not-dtls .ensures) ∙ c .before .before .if3 .left, le-ltb _ _ (c .before .if4 .left), packet-length (now (c .before .before .before .before .before .before .before .before .before .before .args .state)) (c .before .before .before .before .before .before .before .before .before .before .pre) (c .before .before .before .before .before .before .before .before .before .before .args .endpoint) (now (c .before .before .before .before .before .before .before .before .before .before .args .packet)) (ap (λ (n : ℕ). ltb n places) (sym (c .before .before .before .before .before .place-of-endpoint .ensures)) ∙ lt-ltb _ _ (c .before .before .before .before .if2 .left)), le-ltb _ _ (c .if5 .left)) (ap Check.Allowed (c .before .before .before .before .before .place-of-endpoint .ensures))
 
 pub check-packet-spec : {M : Type 1} → statement M
 check-packet-spec =

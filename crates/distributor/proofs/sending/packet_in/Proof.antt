@@ -7,12 +7,12 @@ use Rattle.distributor.proofs.sending.packet_in.Tie as tie
 row-at-requires : tie.Need-row-at-requires
 row-at-requires c κs =
     let a = c .before .before .before .before .before .before .before .args in
-    (c .before .before .before .before .before .before .before .pre, packet-place (now (a .state)) (c .before .before .before .before .before .before .before .pre) (a .endpoint) (now (a .packet)) (now (a .out)) (c .before .enum-told .given .1) (c .before .before .before .check-packet .ensures) _ (c .place-of-endpoint .ensures))
+    (c .before .before .before .before .before .before .before .pre, packet-place (now (a .state)) (c .before .before .before .before .before .before .before .pre) (a .endpoint) (now (a .packet)) (now (a .out)) (c .before .place .given .1) (c .before .before .before .check-packet .ensures))
 
 returns : tie.Need-returns
 returns c =
-    let a = c .before .before .before .before .before .before .before .before .before .before .before .before .before .args in
-    packet-done (now (a .state)) (c .before .before .before .before .before .before .before .before .before .before .before .before .before .pre) (a .endpoint) (now (a .packet)) (now (a .out)) (c .before .before .before .before .before .before .before .enum-told .given .1) (c .before .before .before .before .before .before .before .before .before .check-packet .ensures) _ (c .before .before .before .before .before .before .place-of-endpoint .ensures) _ _ _ (c .before .before .write-tunneled-dtls .ensures .1) (c .before .before .before .before .identifier-of .ensures) (c .before .before .before .before .before .row-at .ensures)
+    let a = c .before .before .before .before .before .before .before .before .before .before .before .before .before .before .args in
+    packet-done (now (a .state)) (c .before .before .before .before .before .before .before .before .before .before .before .before .before .before .pre) (a .endpoint) (now (a .packet)) (now (a .out)) (c .before .before .before .before .before .before .before .before .place .given .1) (c .before .before .before .before .before .before .before .before .before .before .check-packet .ensures) _ _ _ (c .before .before .write-tunneled-dtls .ensures .1) (c .before .before .before .before .before .array16 .ensures) (c .before .before .before .before .before .before .row-at .ensures)
 
 returns-2 : tie.Need-returns-2
 returns-2 c =
@@ -25,9 +25,9 @@ packet-in-spec =
     (tie.spec
     (λ c κs. search needs)
     (λ c. search needs)
-    (λ c κs. search needs)
     row-at-requires
     (λ c κs. search needs)
+    (λ c. search needs)
     (λ c κs. search needs)
     (λ c. search needs)
     (λ c. search needs)

@@ -2,10 +2,6 @@ use borrow.Author.Needs.{needs}
 use Rattle.message.proofs.places.places_of.Statement.{statement}
 use Rattle.message.proofs.places.places_of.Tie as tie
 
--- /work/main/target/rlib/octets.rlib/interface/lang/src/parts.rt:2:30
--- /work/main/target/rlib/octets.rlib/interface/lang/src/parts.rt:2:30
--- /work/main/target/rlib/octets.rlib/interface/lang/src/parts.rt:2:30
--- /work/main/target/rlib/octets.rlib/interface/lang/src/parts.rt:2:30
 returns : tie.Need-returns
 returns c = rw (c .enum-told .given .1)
 
