@@ -1,0 +1,5 @@
+pub mod WriteLaws
+pub mod Told
+pub mod Standing
+pub mod TagStands
+pub mod FieldsStand

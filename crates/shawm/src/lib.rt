@@ -1,0 +1,25 @@
+// The C interface: sorting packets, reading and writing tunnel messages and splitting the EKT tag,
+// on numbers and lent octets. Each export gives a number for what a crate below answers.
+mod fields;
+mod numbers;
+mod reading;
+mod refusal;
+mod sorting;
+mod tag;
+mod writing;
+
+pub use fields::shawm_field_length;
+pub use fields::shawm_field_start;
+pub use numbers::shawm_field_number;
+pub use reading::shawm_read;
+pub use reading::shawm_taken;
+pub use sorting::shawm_sort;
+pub use tag::shawm_tag;
+pub use tag::shawm_tag_length;
+pub use tag::shawm_tag_number;
+pub use tag::shawm_tag_start;
+pub use writing::shawm_write_endpoint_disconnect;
+pub use writing::shawm_write_media_keys;
+pub use writing::shawm_write_supported_profiles;
+pub use writing::shawm_write_tunneled_dtls;
+pub use writing::shawm_write_unsupported_version;
