@@ -20,14 +20,15 @@ use Rattle.distributor.specs.Call as Call
 use Rattle.distributor.specs.Verdict.{Verdict, allowed, refusal, refuse}
 use Rattle.distributor.specs.Answer.{Association, Answer, refused, found, delivery, keysStored, removed, answered}
 use Rattle.distributor.specs.Refusals.{wrongWidth, noRoom, notDtls, tooLong, startMessage, receiving}
-use Rattle.distributor.specs.View.{Slot, View, identifierIn, endpointIn, isFor, isServing}
+use Rattle.distributor.specs.View.{Slot, View, identifierIn, endpointIn, isFor}
 use Rattle.distributor.specs.Cards.{Held, blank, opened, keyed, Cards, filled, holding, endpointLive, allLive}
 use Rattle.distributor.specs.CardAnswers as CardAnswers
 use Rattle.distributor.specs.CardAnswers.{tunnelOn, identifierWith, associationOn, deliveryOn, messageDue, readDue, due}
 use Rattle.distributor.specs.Claim.{apart}
-use Rattle.distributor.proofs.ViewSteps.{inSlot, firstWith, has, isDown, startVerdict, openVerdict, packetVerdict, closeVerdict, lookVerdict, keysVerdict, fieldsAnswer, readAnswer, viewAnswer}
+use Rattle.distributor.proofs.ViewSteps.{isServing, inSlot, firstWith, has, isDown, startVerdict, openVerdict, packetVerdict, closeVerdict, lookVerdict, keysVerdict, fieldsAnswer, readAnswer, viewAnswer}
 use Rattle.distributor.proofs.KeepLaws.{first-found, first-none, first-kept, first-is}
 use Rattle.distributor.proofs.Accepting.{startOrder, openOrder, closeOrder, keysOrder}
+use Rattle.distributor.proofs.ProfilesLaws.{due-reads}
 use Rattle.distributor.proofs.Agrees.{Agrees, slotsOn}
 use Rattle.distributor.proofs.AgreesSays.{known-is, serving-card, busy-is}
 use Rattle.distributor.proofs.AgreesVerdicts.{up-is, open-is, close-is, keys-is}
@@ -152,7 +153,7 @@ unfolding viewAnswer due
 agrees-answer v cards g (Call.start list room) = apart-answered 0 _ (start-due g list room)
 agrees-answer v cards g (Call.opening i e) = apart-answered 0 _ (open-due g i e)
 agrees-answer v cards g (Call.boothPacket e packet room) = apart-answered 0 _ (packet-due g e packet room) ∙ rw (served-identifier g e)
-agrees-answer v cards g (Call.tunnelOctets octets) = apart-cond (isUp (v .tunnel)) _ _ ∙ rw (up-on g, read-answer g octets (receiving octets))
+agrees-answer v cards g (Call.tunnelOctets octets) = apart-cond (isUp (v .tunnel)) _ _ ∙ rw (up-on g, read-answer g octets (receiving octets), due-reads cards octets)
 agrees-answer v cards g (Call.close i room) = apart-answered 0 _ (close-due g i room)
 agrees-answer v cards g Call.end = apart-cond (isUp (v .tunnel)) _ _ ∙ rw (up-on g)
 agrees-answer v cards g (Call.look e) = apart-answered 0 _ (look-due g e) ∙ found-live (CardAnswers.isDown cards) (endpointLive cards e) _ _ (served g e)

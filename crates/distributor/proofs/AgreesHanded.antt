@@ -24,6 +24,7 @@ use Rattle.distributor.specs.Claim.{apart, nothing, handedBy, handedOn, 
 use Rattle.distributor.proofs.ViewSteps.{viewAnswer}
 use Rattle.distributor.proofs.Choices.{no-both}
 use Rattle.distributor.proofs.Accepting.{keysOrder}
+use Rattle.distributor.proofs.ProfilesLaws.{handed-reads, due-reads}
 use Rattle.distributor.proofs.Agrees.{Agrees}
 use Rattle.distributor.proofs.AgreesVerdicts.{up-is}
 use Rattle.distributor.proofs.AgreesAnswers.{agrees-answer}
@@ -93,12 +94,12 @@ module _ (cards : Cards) (octets : List ℕ) where
     read-blank (Read.accepted f taken) = message-blank f
 
 module _ {v : View} {cards : Cards} (g : Agrees v cards) (octets : List ℕ) where
-  due-handed : handedBy octets (due cards (Call.tunnelOctets octets)) ≡ handedRead cards octets (receiving octets)
+  due-handed : handedBy octets (due cards (Call.tunnelOctets octets)) ≡ handedRead cards octets (Read.reading octets)
   unfolding due
   due-handed =
-      by-choice (λ (a : Answer). handedBy octets a ≡ handedRead cards octets (receiving octets)) (isUp (tunnelOn cards)) _ _
-      (λ q. read-handed cards octets (receiving octets))
-      (λ q. sym (read-blank cards octets (g .idle (sym (up-is g (replicate width 0)) ∙ q)) (receiving octets)))
+      by-choice (λ (a : Answer). handedBy octets a ≡ handedRead cards octets (Read.reading octets)) (isUp (tunnelOn cards)) _ _
+      (λ q. ap (handedBy octets) (sym (due-reads cards octets)) ∙ read-handed cards octets (receiving octets) ∙ handed-reads cards octets)
+      (λ q. sym (read-blank cards octets (g .idle (sym (up-is g (replicate width 0)) ∙ q)) (Read.reading octets)))
 
 pub agrees-handed : (v : View) (cards : Cards) → Agrees v cards → (octets : List ℕ)
     → handedBy octets (viewAnswer v (Call.tunnelOctets octets)) ≡ handedDue cards (Call.tunnelOctets octets)

@@ -25,6 +25,7 @@ use Rattle.distributor.specs.Cards.{blank, Cards, filled, withKeys, down
 use Rattle.distributor.proofs.ViewSteps.{has, downView, keysVerdict, fieldsNext, readNext}
 use Rattle.distributor.proofs.Choices.{by-test, chosen}
 use Rattle.distributor.proofs.Accepting.{accepts, passes, keys-accepts}
+use Rattle.distributor.proofs.ProfilesLaws.{card-reads}
 use Rattle.distributor.proofs.Agrees.{Agrees}
 use Rattle.distributor.proofs.AgreesSays.{known-is}
 use Rattle.distributor.proofs.AgreesVerdicts.{up-is, keys-is}
@@ -95,5 +96,5 @@ module _ {v : View} {cards : Cards} (g : Agrees v cards) (octets : List ℕ) whe
   unfolding Cards.next Cards.cardNext Cards.openingNext
   octets-step =
       by-choice (λ (x : View). Agrees x (Cards.next cards (Call.tunnelOctets octets))) (isUp (v .tunnel)) _ v
-      (λ q. cards-are _ _ _ (λ j. chosen _ (cards .card j) (up-is g j ∙ q)) (read-step (receiving octets)))
+      (λ q. cards-are _ _ _ (λ j. chosen _ (cards .card j) (up-is g j ∙ q) ∙ sym (card-reads (cards .card j) octets j)) (read-step (receiving octets)))
       (λ q. unchanged g _ (same-named g) (λ j. chosen _ (cards .card j) (up-is g j ∙ q)))

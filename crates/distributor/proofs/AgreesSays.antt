@@ -13,11 +13,11 @@ use Rattle.octets.proofs.Tests.{false-true}
 use Rattle.distributor.specs.Search as Search
 use Rattle.distributor.specs.Search.{keep, Distinct}
 use Rattle.distributor.specs.Answer.{Association}
-use Rattle.distributor.specs.View.{Slot, View, identifierIn, endpointIn, isVacant, isFor, isServing}
+use Rattle.distributor.specs.View.{Slot, View, identifierIn, endpointIn, isFor}
 use Rattle.distributor.specs.Cards.{Cards, filled, holding, live, endpointLive, allLive}
 use Rattle.distributor.specs.CardAnswers.{associationOn}
 use Rattle.distributor.specs.Claim.{records, AsCards}
-use Rattle.distributor.proofs.ViewSteps.{inSlot, has}
+use Rattle.distributor.proofs.ViewSteps.{isVacant, isServing, inSlot, has}
 use Rattle.distributor.proofs.Choices.{bool-ext}
 use Rattle.distributor.proofs.KeepLaws.{nonEmpty, kept, keeps, found-some, some-keep, first-found}
 use Rattle.distributor.proofs.DistinctLaws.{distinct-le, distinct-keep, distinct-map}

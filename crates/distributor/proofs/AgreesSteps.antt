@@ -18,10 +18,10 @@ use Rattle.distributor.specs.Call as Call
 use Rattle.distributor.specs.Verdict.{after}
 use Rattle.distributor.specs.Answer as Answer
 use Rattle.distributor.specs.Refusals.{wrongWidth, noRoom, startMessage}
-use Rattle.distributor.specs.View.{View, isVacant, isFor}
+use Rattle.distributor.specs.View.{View, isFor}
 use Rattle.distributor.specs.Cards as Cards
 use Rattle.distributor.specs.Cards.{blank, opened, Cards, filled, endpointLive, allLive}
-use Rattle.distributor.proofs.ViewSteps.{withSlot, downView, upView, isDown, startVerdict, openVerdict, closeVerdict, viewStep}
+use Rattle.distributor.proofs.ViewSteps.{isVacant, withSlot, downView, upView, isDown, startVerdict, openVerdict, closeVerdict, viewStep}
 use Rattle.distributor.proofs.Choices.{chosen}
 use Rattle.distributor.proofs.NamingLaws.{naming-more, naming-once, naming-here}
 use Rattle.distributor.proofs.Accepting.{accepts, by-verdict, passes, start-accepts, open-accepts, close-accepts}

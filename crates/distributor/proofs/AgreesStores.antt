@@ -14,10 +14,10 @@ use Rattle.distributor.specs.Keys.{Keys}
 use Rattle.distributor.specs.Tunnel.{isUp}
 use Rattle.distributor.specs.Answer as Answer
 use Rattle.distributor.specs.Answer.{Association}
-use Rattle.distributor.specs.View.{Slot, View, identifierIn, isVacant, isFor}
+use Rattle.distributor.specs.View.{Slot, View, identifierIn, isFor}
 use Rattle.distributor.specs.Cards.{Held, blank, opened, keyed, Cards, filled, holding, endpointLive, withKeys}
 use Rattle.distributor.specs.CardAnswers.{associationOn}
-use Rattle.distributor.proofs.ViewSteps.{inSlot, has, firstWith, rekey}
+use Rattle.distributor.proofs.ViewSteps.{isVacant, inSlot, has, firstWith, rekey}
 use Rattle.distributor.proofs.Choices.{no-both, by-test, chosen}
 use Rattle.distributor.proofs.KeepLaws.{found-some, first-lt, first-found, first-is, keep-set-neither, keep-set-new, keep-set-first}
 use Rattle.distributor.proofs.Agrees.{Agrees, slotsOn, card-on, slots-filled, slots-blank, holding-filled}

@@ -27,6 +27,7 @@ pub mod AgreesSays
 pub mod AgreesVerdicts
 pub mod AgreesChange
 pub mod AgreesStores
+pub mod ProfilesLaws
 pub mod AgreesOctets
 pub mod AgreesSteps
 pub mod AgreesAnswers

@@ -14,9 +14,10 @@ use Rattle.octets.proofs.Tests.{by-choice}
 use Rattle.distributor.specs.Search as Search
 use Rattle.distributor.specs.Search.{keep, Distinct}
 use Rattle.distributor.specs.Answer.{Association}
-use Rattle.distributor.specs.View.{Slot, identifierIn, isVacant, isFor}
+use Rattle.distributor.specs.View.{Slot, identifierIn, isFor}
 use Rattle.distributor.specs.Cards.{Held, blank, opened, keyed, filled}
 use Rattle.distributor.specs.Claim.{heldIn, heldOn, records}
+use Rattle.distributor.proofs.ViewSteps.{isVacant}
 use Rattle.distributor.proofs.KeepLaws.{nonEmpty, keeps}
 use Rattle.distributor.proofs.Agrees.{slotsOn}
 

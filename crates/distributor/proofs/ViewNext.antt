@@ -20,9 +20,9 @@ use Rattle.distributor.specs.Verdict.{allowed}
 use Rattle.distributor.specs.Answer.{Association, opened, keyed, Answer, refused}
 use Rattle.distributor.specs.Refusals.{receiving}
 use Rattle.distributor.specs.Table.{placeOfIdentifier, vacantPlace, knows, startVerdict, openVerdict, closeVerdict, keysVerdict, startNext, openNext, closeNext, endNext, fieldsNext, readNext, octetsNext, associationOf, without, rekeyed, step}
-use Rattle.distributor.specs.View.{view, identifierIn, endpointIn, isVacant, isFor}
+use Rattle.distributor.specs.View.{view, identifierIn, endpointIn, isFor}
 use Rattle.distributor.proofs.ViewSteps as Steps
-use Rattle.distributor.proofs.ViewSteps.{withSlot, firstWith, rekey, viewStep}
+use Rattle.distributor.proofs.ViewSteps.{isVacant, withSlot, firstWith, rekey, viewStep}
 use Rattle.distributor.proofs.RowsLaws.{Legal, row-length}
 use Rattle.distributor.proofs.RowLaws.{vacant-row-length, vacant-row, open-row-length, open-row, keyed-row-length, keyed-row}
 use Rattle.distributor.proofs.KeysRoom.{keys-room}

@@ -1,6 +1,6 @@
 -- The calls on the view: what each answers and makes of tunnel and table, record by record.
 use Prim.Native.Nat.{ℕ}
-use mathlib.Core.Bool.{Bool, cond, not}
+use mathlib.Core.Bool.{Bool, true, false, cond, not}
 use mathlib.Core.List.{List, []}
 use mathlib.Core.Option.{some, none}
 use lib.Dec.{eqb}
@@ -22,9 +22,17 @@ use Rattle.distributor.specs.Verdict.{Verdict, allowed, refuse, after}
 use Rattle.distributor.specs.Answer as Answer
 use Rattle.distributor.specs.Answer.{Association, Answer, refused, moreNeeded, wrote, placed, ended, found, keysStored, delivery, removed, version, answered}
 use Rattle.distributor.specs.Refusals.{wrongWidth, noRoom, notDtls, tooLong, startMessage, receiving}
-use Rattle.distributor.specs.View.{Slot, View, identifierIn, endpointIn, isVacant, isFor, isServing}
+use Rattle.distributor.specs.View.{Slot, View, identifierIn, endpointIn, isFor}
 
 -- ---- what stands at a place
+
+abbrev pub isVacant : Slot → Bool
+isVacant none = true
+isVacant (some a) = false
+
+abbrev pub isServing : ℕ → Slot → Bool
+isServing endpoint none = false
+isServing endpoint (some a) = eqb (endpointIn a) endpoint
 
 -- the association at a place; where there is none, one that no answer asks for
 abbrev pub inSlot : Slot → Association

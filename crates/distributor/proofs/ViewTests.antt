@@ -16,8 +16,8 @@ use Rattle.distributor.specs.Layout.{up, rows, rowOf, live, identifierOf
 use Rattle.distributor.specs.Answer.{opened, keyed}
 use Rattle.distributor.specs.Table.{associationOf, placeOfIdentifier, placeOfEndpoint, vacantPlace, knows, serves, hasRoom}
 use Rattle.distributor.specs.Tunnel.{isUp}
-use Rattle.distributor.specs.View.{Slot, slotOf, view, identifierIn, endpointIn, isVacant, isFor, isServing}
-use Rattle.distributor.proofs.ViewSteps.{has, firstWith}
+use Rattle.distributor.specs.View.{Slot, slotOf, view, identifierIn, endpointIn, isFor}
+use Rattle.distributor.proofs.ViewSteps.{isVacant, isServing, has, firstWith}
 use Rattle.distributor.proofs.SearchLaws.{some-first, first-passes, first-along}
 use Rattle.distributor.proofs.RowsLaws.{rows-length}
 use Rattle.distributor.proofs.TunnelLaws.{tunnel-up}

@@ -1,10 +1,11 @@
 -- What the cards say of each call's answer, place numbers apart. Nothing here names the table.
-use Prim.Native.Nat.{ℕ}
+use Prim.Native.Nat.{ℕ, _+_}
 use mathlib.Core.Bool.{Bool, cond, not}
 use mathlib.Core.List.{List, [], _∷_}
 use lib.ListN.{getD, replicate}
 use Rattle.octets.specs.Bounds.{partIn}
-use Rattle.message.specs.Limits.{width}
+use Rattle.message.specs.Frame as Frame
+use Rattle.message.specs.Limits.{width, header}
 use Rattle.message.specs.Message.{encode, tunneledDtls, endpointDisconnect}
 use Rattle.message.specs.Parts.{identifierPlace, dtlsPlace}
 use Rattle.message.specs.Profiles.{goodList, inList, keysFit, mkiAndSaltsFit}
@@ -17,7 +18,7 @@ use Rattle.distributor.specs.Call as Call
 use Rattle.distributor.specs.Verdict.{allowed, refuse}
 use Rattle.distributor.specs.Answer as Answer
 use Rattle.distributor.specs.Answer.{Answer, Association, refused, moreNeeded, wrote, placed, ended, found, keysStored, delivery, removed, version, answered}
-use Rattle.distributor.specs.Refusals.{wrongWidth, noRoom, notDtls, tooLong, startMessage, receiving}
+use Rattle.distributor.specs.Refusals.{wrongWidth, noRoom, notDtls, tooLong, startMessage, ofProfiles}
 use Rattle.distributor.specs.Cards.{Held, blank, opened, keyed, Cards, filled, holding, endpointLive, allLive, next}
 
 -- every card keeps the tunnel, so any will do
@@ -103,11 +104,15 @@ readDue cards octets Read.moreNeeded = moreNeeded
 readDue cards octets (Read.refused number taken) = refused number taken
 readDue cards octets (Read.accepted f taken) = messageDue cards octets f taken
 
+-- by the reading rules, with refusal 4, for a whole message of type 1, tested before the body
+abbrev pub octetsDue : Cards → List ℕ → Frame.Framing → Answer
+octetsDue cards octets f = ofProfiles f (λ n. refused 4 (header + n)) (readDue cards octets (Read.frameAnswer octets f))
+
 unfoldable pub due : Cards → Call.Call → Answer
 due cards (Call.start list room) = startDue cards list room
 due cards (Call.opening identifier endpoint) = openDue cards identifier endpoint
 due cards (Call.boothPacket endpoint packet room) = packetDue cards endpoint packet room
-due cards (Call.tunnelOctets octets) = cond (isUp (tunnelOn cards)) (readDue cards octets (receiving octets)) (refused 1 0)
+due cards (Call.tunnelOctets octets) = cond (isUp (tunnelOn cards)) (octetsDue cards octets (Frame.frame octets)) (refused 1 0)
 due cards (Call.close identifier room) = closeDue cards identifier room
 due cards Call.end = cond (isUp (tunnelOn cards)) ended (refused 1 0)
 due cards (Call.look endpoint) = lookDue cards endpoint

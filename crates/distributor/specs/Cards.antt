@@ -17,7 +17,7 @@ use Rattle.distributor.specs.Search.{someOf, keep}
 use Rattle.distributor.specs.Keys.{Keys, keysIn}
 use Rattle.distributor.specs.Tunnel.{Tunnel, down, upWith, isUp, listIn}
 use Rattle.distributor.specs.Call as Call
-use Rattle.distributor.specs.Refusals.{wrongWidth, noRoom, startMessage, receiving}
+use Rattle.distributor.specs.Refusals.{wrongWidth, noRoom, startMessage}
 
 -- blank, or filled with an endpoint: open, or keyed with the key fields
 pub data Held : Type 0 where
@@ -100,8 +100,9 @@ readCard c octets Read.moreNeeded i = c
 readCard c octets (Read.refused number taken) i = cond (eqb number 2) downCard c
 readCard c octets (Read.accepted f taken) i = messageCard c octets f i
 
+-- by the reading rules: refusal 4 is for a type 1, which changes no card
 abbrev pub octetsCard : Card → List ℕ → List ℕ → Card
-octetsCard c octets i = cond (isUp (c .tunnel)) (readCard c octets (receiving octets) i) c
+octetsCard c octets i = cond (isUp (c .tunnel)) (readCard c octets (Read.reading octets) i) c
 
 -- Close of its identifier, when up and 13 doesn't apply: blank
 abbrev pub closeCard : Card → List ℕ → (room : ℕ) → List ℕ → Card

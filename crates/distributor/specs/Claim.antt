@@ -20,7 +20,6 @@ use Rattle.distributor.specs.Answer.{Answer, Association, refused, moreN
 use Rattle.distributor.specs.Layout.{downBlock}
 use Rattle.distributor.specs.Table.{run, answer, answers, step}
 use Rattle.distributor.specs.View.{Slot, View, view, isFor, identifierIn, endpointIn}
-use Rattle.distributor.specs.Refusals.{receiving}
 use Rattle.distributor.specs.Cards as Cards
 use Rattle.distributor.specs.Cards.{Held, blank, opened, keyed, filled, live, fed}
 use Rattle.distributor.specs.CardAnswers.{dues}
@@ -111,7 +110,7 @@ unfoldable pub handedDue : Cards.Cards → Call.Call → Handed
 handedDue cards (Call.start list room) = nothing
 handedDue cards (Call.opening identifier endpoint) = nothing
 handedDue cards (Call.boothPacket endpoint packet room) = nothing
-handedDue cards (Call.tunnelOctets octets) = handedRead cards octets (receiving octets)
+handedDue cards (Call.tunnelOctets octets) = handedRead cards octets (Read.reading octets)
 handedDue cards (Call.close identifier room) = nothing
 handedDue cards Call.end = nothing
 handedDue cards (Call.look endpoint) = nothing

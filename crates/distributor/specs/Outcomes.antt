@@ -6,6 +6,7 @@ use mathlib.Core.List.{List, _++_}
 use lib.ListN.{length, drop}
 use lib.Dec.{eqb}
 use Rattle.distributor.specs.Verdict.{Verdict, allowed, refusal}
+use Rattle.distributor.specs.Refusals.{ofProfiles}
 use Rattle.distributor.specs.Answer as Answer
 use Rattle.distributor.specs.Answer.{Answer, refused, moreNeeded, wrote, placed, ended, found, keysStored, delivery, removed, version}
 use Rattle.distributor.specs.declared.check.Check.{Check}
@@ -15,9 +16,8 @@ use Rattle.distributor.specs.declared.sending.Sent.{Sent}
 use Rattle.distributor.specs.declared.receiving.Received.{Received}
 use Rattle.message.specs.Frame as Frame
 use Rattle.message.specs.Limits.{header}
-use Rattle.message.specs.declared.framing.Kind.{Kind}
 
--- a verdict, with the place of the association that an allowed call is about
+-- a verdict, with the place that an allowed call is about: an association's, or the vacant one that an opening takes
 abbrev pub checked : Verdict → (place : ℕ) → Check
 checked allowed place = Check.Allowed place
 checked (refusal number) place = Check.Refused number
@@ -82,12 +82,4 @@ receivedOf (Received.Version number taken) = version number taken
 
 -- the octets of a whole SupportedProfiles, which is refusal 4; 0 where the octets hold none
 abbrev pub profilesIn : Frame.Framing → ℕ
-profilesIn Frame.moreNeeded = 0
-profilesIn (Frame.refused number taken) = 0
-profilesIn (Frame.version number) = 0
-profilesIn (Frame.whole Kind.SupportedProfiles n) = header + n
-profilesIn (Frame.whole Kind.UnsupportedVersion n) = 0
-profilesIn (Frame.whole Kind.MediaKeys n) = 0
-profilesIn (Frame.whole Kind.TunneledDtls n) = 0
-profilesIn (Frame.whole Kind.EndpointDisconnect n) = 0
-profilesIn (Frame.whole Kind.Unlisted n) = 0
+profilesIn f = ofProfiles f (λ n. header + n) 0

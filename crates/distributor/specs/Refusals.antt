@@ -1,4 +1,4 @@
--- The single tests that refusals go by, of the arguments alone, and the messages that calls write.
+-- The single tests that refusals go by, of the arguments alone, and the messages that calls write: document 01, "Refusal numbers" and "The record and its calls".
 use Prim.Native.Nat.{ℕ, _+_}
 use mathlib.Core.Bool.{Bool, true, false, not}
 use mathlib.Core.List.{List}
@@ -13,7 +13,7 @@ use Rattle.message.specs.Read as Read
 use Rattle.message.specs.declared.framing.Kind as MessageKind
 use Rattle.distributor.specs.Limits.{packetLimit}
 
--- 20
+-- 20: identifier not A octets
 abbrev pub wrongWidth : List ℕ → Bool
 wrongWidth identifier = not (eqb (length identifier) width)
 
@@ -35,7 +35,7 @@ sortsAsDtls (Sorting.kind k) = isDtlsKind k
 unfoldable pub notDtls : List ℕ → Bool
 notDtls packet = not (sortsAsDtls (Sorting.sorting packet))
 
--- 15
+-- 15: packet over 4,094 - A octets
 abbrev pub tooLong : List ℕ → Bool
 tooLong packet = ltb packetLimit (length packet)
 
@@ -43,17 +43,21 @@ tooLong packet = ltb packetLimit (length packet)
 abbrev pub startMessage : List ℕ → Message
 startMessage list = supportedProfiles 0 list
 
+-- what is so of a whole message of type 1, by its body's length, and what of all else
+abbrev pub ofProfiles : {X : Type 0} → Frame.Framing → (ℕ → X) → X → X
+ofProfiles Frame.moreNeeded x y = y
+ofProfiles (Frame.refused number taken) x y = y
+ofProfiles (Frame.version number) x y = y
+ofProfiles (Frame.whole MessageKind.Kind.SupportedProfiles n) x y = x n
+ofProfiles (Frame.whole MessageKind.Kind.UnsupportedVersion n) x y = y
+ofProfiles (Frame.whole MessageKind.Kind.MediaKeys n) x y = y
+ofProfiles (Frame.whole MessageKind.Kind.TunneledDtls n) x y = y
+ofProfiles (Frame.whole MessageKind.Kind.EndpointDisconnect n) x y = y
+ofProfiles (Frame.whole MessageKind.Kind.Unlisted n) x y = y
+
 -- the reading of octets from the key distributor: refusal 4, for a whole message of type 1, comes before the body
 abbrev pub received : List ℕ → Frame.Framing → Read.Answer
-received s Frame.moreNeeded = Read.frameAnswer s Frame.moreNeeded
-received s (Frame.refused number taken) = Read.frameAnswer s (Frame.refused number taken)
-received s (Frame.version number) = Read.frameAnswer s (Frame.version number)
-received s (Frame.whole MessageKind.Kind.SupportedProfiles n) = Read.refused 4 (header + n)
-received s (Frame.whole MessageKind.Kind.UnsupportedVersion n) = Read.frameAnswer s (Frame.whole MessageKind.Kind.UnsupportedVersion n)
-received s (Frame.whole MessageKind.Kind.MediaKeys n) = Read.frameAnswer s (Frame.whole MessageKind.Kind.MediaKeys n)
-received s (Frame.whole MessageKind.Kind.TunneledDtls n) = Read.frameAnswer s (Frame.whole MessageKind.Kind.TunneledDtls n)
-received s (Frame.whole MessageKind.Kind.EndpointDisconnect n) = Read.frameAnswer s (Frame.whole MessageKind.Kind.EndpointDisconnect n)
-received s (Frame.whole MessageKind.Kind.Unlisted n) = Read.frameAnswer s (Frame.whole MessageKind.Kind.Unlisted n)
+received s f = ofProfiles f (λ n. Read.refused 4 (header + n)) (Read.frameAnswer s f)
 
 unfoldable pub receiving : List ℕ → Read.Answer
 receiving s = received s (Frame.frame s)

@@ -1,9 +1,8 @@
--- The block read as a tunnel and, place by place, its associations.
+-- The block read as a tunnel and, place by place, its associations: document 01, "The record and its calls".
 use Prim.Native.Nat.{ℕ}
-use mathlib.Core.Bool.{Bool, true, false, cond}
+use mathlib.Core.Bool.{Bool, false, cond}
 use mathlib.Core.List.{List, map}
 use mathlib.Core.Option.{Option, some, none}
-use lib.Dec.{eqb}
 use Rattle.octets.specs.Part.{same}
 use Rattle.distributor.specs.Layout.{up, listOf, rows, live}
 use Rattle.distributor.specs.Answer.{Association, opened, keyed}
@@ -37,14 +36,6 @@ abbrev pub endpointIn : Association → ℕ
 endpointIn (opened identifier endpoint) = endpoint
 endpointIn (keyed identifier endpoint k) = endpoint
 
-abbrev pub isVacant : Slot → Bool
-isVacant none = true
-isVacant (some a) = false
-
 abbrev pub isFor : List ℕ → Slot → Bool
 isFor identifier none = false
 isFor identifier (some a) = same (identifierIn a) identifier
-
-abbrev pub isServing : ℕ → Slot → Bool
-isServing endpoint none = false
-isServing endpoint (some a) = eqb (endpointIn a) endpoint

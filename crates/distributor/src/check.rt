@@ -2,7 +2,7 @@
 ghost use mathlib.Core.Path.{_≡_};
 
 pub enum Check {
-    // For the association at a place; Start is about none, and has 0.
+    // At the association's place, or the vacant one that an opening takes; Start has none: 0.
     Allowed { place: usize },
     Refused { number: u8 },
 }
