@@ -1,9 +1,26 @@
-# make demo    run the worked octets and print each answer
-# make test    the whole gate: formatting, tests, proofs, wrong programs, programs
-# make check   prove what changed and run the programs
-# make fmt     lay the sources out
-# make bench   ns per call and stack of the distributor's calls: docs/BENCHMARKS.md
-.PHONY: demo test check fmt bench
+# make demo         run the worked octets and print each answer
+# make test         the whole gate: formatting, tests, proofs, wrong programs, programs
+# make check        prove what changed and run the programs
+# make fmt          lay the sources out
+# make bench        ns per call and stack of the distributor's calls: docs/BENCHMARKS.md
+#
+# For C (docs/TESTING.md says what each test does):
+# make lib          build/libshawm.a, build/include/shawm.h, build/shawm.pc
+# make install      the same three below PREFIX (/usr/local), inside DESTDIR; make uninstall takes them away
+# make outside      the tests by programs that share nothing with the proofs, as the gate runs them
+# make soak         random comparisons for SOAK_SECONDS (600), from SEED (1) on
+# make faults       wrong libraries, each of which the tests must find
+# make test-clang   the C tests by clang: wants Debian's clang
+# make fuzz         libFuzzer for FUZZ_SECONDS (60): wants Debian's clang
+# make test-tshark  what tshark says of the captured packets, against what is stored: wants Debian's tshark
+# make clean        remove what was built
+.PHONY: demo test check fmt bench lib install uninstall outside soak faults test-clang fuzz test-tshark clean
+
+PREFIX ?= /usr/local
+DESTDIR ?=
+SOAK_SECONDS ?= 600
+FUZZ_SECONDS ?= 60
+SEED ?= 1
 
 demo:
 	@rt check vectors > /dev/null || { rt check vectors | tail -n 20; exit 1; }
@@ -22,3 +39,57 @@ bench:
 	rt staticlib measure
 	cd bench && cargo run --release --offline
 	bench/stack
+
+lib: build/libshawm.a build/include/shawm.h build/shawm.pc
+
+build/libshawm.a: crates.txt $(shell find crates -type f)
+	rt staticlib shawm
+	@mkdir -p build
+	cp target/staticlib/libshawm.a $@
+
+build/include/shawm.h: include/shawm.h
+	@mkdir -p build/include
+	cp include/shawm.h $@
+
+# Found from its own place, so the folder may be moved.
+build/shawm.pc: include/shawm.pc.in
+	@mkdir -p build
+	sed 's|@PREFIX@|$${pcfiledir}|; s|@LIBDIR@|$${pcfiledir}|; s|@INCLUDEDIR@|$${pcfiledir}/include|' $< > $@
+
+install: lib
+	install -d '$(DESTDIR)$(PREFIX)/lib/pkgconfig' '$(DESTDIR)$(PREFIX)/include'
+	install -m 644 build/libshawm.a '$(DESTDIR)$(PREFIX)/lib/libshawm.a'
+	install -m 644 include/shawm.h '$(DESTDIR)$(PREFIX)/include/shawm.h'
+	sed 's|@PREFIX@|$(PREFIX)|; s|@LIBDIR@|$${prefix}/lib|; s|@INCLUDEDIR@|$${prefix}/include|' include/shawm.pc.in \
+	    > '$(DESTDIR)$(PREFIX)/lib/pkgconfig/shawm.pc'
+	chmod 644 '$(DESTDIR)$(PREFIX)/lib/pkgconfig/shawm.pc'
+
+uninstall:
+	rm -f '$(DESTDIR)$(PREFIX)/lib/libshawm.a' '$(DESTDIR)$(PREFIX)/include/shawm.h' \
+	    '$(DESTDIR)$(PREFIX)/lib/pkgconfig/shawm.pc'
+
+outside:
+	bash tests/run
+
+soak: lib
+	bash tests/differential/run --seconds $(SOAK_SECONDS) --seed $(SEED)
+
+faults:
+	python3 tests/faults/run
+
+test-clang: lib
+	@command -v clang++ > /dev/null || { echo 'wants: apt-get install clang'; exit 1; }
+	CC=clang CXX=clang++ bash tests/c/header
+	CC=clang CXX=clang++ bash tests/c/answers
+	CC=clang CXX=clang++ bash tests/c/examples
+
+fuzz: lib
+	@command -v clang > /dev/null || { echo 'wants: apt-get install clang'; exit 1; }
+	bash tests/fuzz/search $(FUZZ_SECONDS)
+
+test-tshark:
+	@command -v tshark > /dev/null || { echo 'wants: apt-get install tshark'; exit 1; }
+	bash tests/agreement/views
+
+clean:
+	rm -rf build target bench/target

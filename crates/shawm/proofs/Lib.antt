@@ -1,5 +1,7 @@
-pub mod WriteLaws
-pub mod Told
 pub mod Standing
-pub mod TagStands
+pub mod ReadLimits
 pub mod FieldsStand
+pub mod SplitLimits
+pub mod TagStands
+pub mod Told
+pub mod WriteLaws

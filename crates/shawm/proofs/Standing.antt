@@ -1,29 +1,28 @@
--- A part that starts within the lent octets stands in them.
-use Prim.Native.Nat.{ℕ, zero, suc, _-_, _≤_}
-use mathlib.Core.Path.{_≡_, refl, ap}
-use mathlib.Core.List.{List, [], _∷_}
-use native.Mathlib.Omega.{arith}
-use lib.ListN.{length, take, drop, length-take, length-drop}
-use Rattle.octets.specs.Part.{part}
+-- What the theorems on places share.
+use Prim.Native.Nat.{ℕ, _≤_}
+use mathlib.Core.Path.{_≡_, refl, sym, ap, _∙_}
+use mathlib.Core.Bool.{Bool, true, false, cond}
+use mathlib.Core.List.{List}
+use lib.ListN.{length}
+use Rattle.octets.specs.Bounds.{partIn}
 use Rattle.octets.specs.declared.parts.Bounds.{Bounds}
+use Rattle.octets.proofs.PartLaws.{part-length}
 use Rattle.shawm.specs.Claims.{Stands}
 
-abbrev pub Within : List ℕ → Bounds → Type 0
-Within s b = b .start ≤ length s
-
-take-own : (k : ℕ) (l : List ℕ) → take (length (take k l)) l ≡ take k l
-take-own zero l = refl
-take-own (suc k) [] = refl
-take-own (suc k) (x ∷ l) = ap (λ (r : List ℕ). x ∷ r) (take-own k l)
-
-pub stands : (s : List ℕ) (b : Bounds) → Within s b → Stands s b
-unfolding part
-stands s b h = record {
-  inside = simp (length-take, length-drop) (omega arith);
-  octets = take-own (b .end - b .start) (drop (b .start) s);
+-- a place that ends within the lent octets
+pub stands : (s : List ℕ) (b : Bounds) (x : List ℕ) → partIn s b ≡ x → b .start ≤ b .end → b .end ≤ length s → Stands s b x
+stands s b x e h k = record {
+  ordered = h;
+  inside = k;
+  counted = ap length (sym e) ∙ part-length s (b .start) (b .end) k;
+  same = e;
 }
 
--- a part that is not empty starts within
-pub starts : (s : List ℕ) (from to : ℕ) → 1 ≤ length (part s from to) → from ≤ length s
-unfolding part
-starts s from to h = omega (arith, length-take (to - from) (drop from s), length-drop from s)
+-- one more of a list
+pub more : {A B : Type 0} → A → B → A × B
+more a b = (a, b)
+
+-- a number that is not listed has no place, whatever the tests on it say
+pub either-way : (t : Bool) (b : Bounds) → cond t b b ≡ b
+either-way true b = refl
+either-way false b = refl

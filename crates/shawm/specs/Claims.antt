@@ -1,42 +1,103 @@
 -- What the theorems in proofs/ say of the answers.
-use Prim.Native.Nat.{ℕ, _+_, _≤_, _<_}
+use Prim.Native.Nat.{ℕ, _+_, _-_, _≤_, _<_}
 use mathlib.Core.Path.{_≡_}
-use mathlib.Core.List.{List}
-use lib.ListN.{length, take, drop}
-use Rattle.octets.specs.Bounds.{partIn}
+use mathlib.Core.List.{List, [], _∷_}
+use lib.ListN.{length}
+use Rattle.octets.specs.Bounds.{nowhere, partIn}
 use Rattle.octets.specs.declared.parts.Bounds.{Bounds}
 use Rattle.demux.specs.Sorting as Sort
+use Rattle.message.specs.Message.{Message, supportedProfiles, unsupportedVersion, mediaKeys, tunneledDtls, endpointDisconnect}
 use Rattle.message.specs.Read as Read
+use Rattle.message.specs.Parts.{meaning, field}
 use Rattle.message.specs.Write as Write
+use Rattle.message.specs.declared.places.Field.{Field}
 use Rattle.ekt.specs.Splitting as Split
+use Rattle.ekt.specs.Parts.{front, ciphertext, extensionData}
 use Rattle.shawm.specs.Refusal.{topBit}
 use Rattle.shawm.specs.Sorting.{sortNumber}
 use Rattle.shawm.specs.Reading.{readNumber}
+use Rattle.shawm.specs.Fields.{fieldPlace}
 use Rattle.shawm.specs.Writing.{writeNumber}
 use Rattle.shawm.specs.Tag.{tagType}
 
--- as many octets as the part has, from its start on, are within the lent ones, and they are the part
-pub record Stands (s : List ℕ) (b : Bounds) : Type 0 where
-  pub inside : b .start + length (partIn s b) ≤ length s
-  pub octets : take (length (partIn s b)) (drop (b .start) s) ≡ partIn s b
+-- ---- places
 
--- ---- no answer but a refusal has the top bit
+-- these octets stand at a place in the lent ones, and none of them is cut off
+pub record Stands (s : List ℕ) (b : Bounds) (octets : List ℕ) : Type 0 where
+  pub ordered : b .start ≤ b .end
+  pub inside : b .end ≤ length s
+  pub counted : length octets ≡ b .end - b .start
+  pub same : partIn s b ≡ octets
+
+-- every entry of a list, a number and octets: the octets stand at the number's place
+abbrev pub AllStand : (s : List ℕ) (place : ℕ → Bounds) → List (ℕ × List ℕ) → Type 0
+AllStand s place [] = Unit {0}
+AllStand s place (x ∷ rest) = Stands s (place (x .0)) (x .1) × AllStand s place rest
+
+-- a number that is not in the list
+abbrev pub NotListed : (number : ℕ) → List (ℕ × List ℕ) → Type 0
+NotListed number [] = Unit {0}
+NotListed number (x ∷ rest) = (number ≡ x .0 → ⊥) × NotListed number rest
+
+-- the places by number are those of the list; any other number has none, from 0 to 0
+pub record Placed (s : List ℕ) (place : ℕ → Bounds) (list : List (ℕ × List ℕ)) : Type 0 where
+  pub listed : AllStand s place list
+  pub others : (number : ℕ) → NotListed number list → place number ≡ nowhere
+
+-- a message's fields by their numbers in the C interface
+abbrev pub fieldsOf : Message → List (ℕ × List ℕ)
+fieldsOf (supportedProfiles version profiles) = (2, profiles) ∷ []
+fieldsOf (unsupportedVersion version) = []
+fieldsOf (mediaKeys identifier profile mki clientKey serverKey clientSalt serverSalt) =
+    (1, identifier) ∷ (3, mki) ∷ (4, clientKey) ∷ (5, serverKey) ∷ (6, clientSalt) ∷ (7, serverSalt) ∷ []
+fieldsOf (tunneledDtls identifier dtls) = (1, identifier) ∷ (8, dtls) ∷ []
+fieldsOf (endpointDisconnect identifier) = (1, identifier) ∷ []
+
+-- those of the message that was read from s
+abbrev pub fieldsRead : (s : List ℕ) → Read.Answer → List (ℕ × List ℕ)
+fieldsRead s Read.moreNeeded = []
+fieldsRead s (Read.refused number taken) = []
+fieldsRead s (Read.accepted fields taken) = fieldsOf (meaning s fields)
+
+-- the part with a field's number is what `message` hands back for the field's name
+pub record FieldsNamed (s : List ℕ) : Type 0 where
+  pub identifier : partIn s (fieldPlace s 1) ≡ field s Field.Identifier
+  pub profileList : partIn s (fieldPlace s 2) ≡ field s Field.ProfileList
+  pub mki : partIn s (fieldPlace s 3) ≡ field s Field.Mki
+  pub clientKey : partIn s (fieldPlace s 4) ≡ field s Field.ClientKey
+  pub serverKey : partIn s (fieldPlace s 5) ≡ field s Field.ServerKey
+  pub clientSalt : partIn s (fieldPlace s 6) ≡ field s Field.ClientSalt
+  pub serverSalt : partIn s (fieldPlace s 7) ≡ field s Field.ServerSalt
+  pub dtls : partIn s (fieldPlace s 8) ≡ field s Field.Dtls
+
+-- the parts of a packet by their numbers in the C interface
+abbrev pub partsOf : (packet : List ℕ) → Split.Split → List (ℕ × List ℕ)
+partsOf packet (Split.refused number) = []
+partsOf packet (Split.short start) = (1, front packet) ∷ []
+partsOf packet (Split.full spi epoch start end) = (1, front packet) ∷ (2, ciphertext packet) ∷ []
+partsOf packet (Split.extension messageType start end) = (1, front packet) ∷ (3, extensionData packet) ∷ []
+
+-- ---- refusals: no other answer has the top bit
+
+-- the top bit, and the number in the low octet, so that bits 8 to 30 are zero
+abbrev pub IsRefusal : (answer number : ℕ) → Type 0
+IsRefusal answer number = (answer ≡ topBit + number) × (number < 256)
 
 abbrev pub SortTold : Sort.Answer → Type 0
-SortTold (Sort.refused number) = Unit {0}
+SortTold (Sort.refused number) = IsRefusal (sortNumber (Sort.refused number)) number
 SortTold (Sort.kind k) = sortNumber (Sort.kind k) < topBit
 
 abbrev pub ReadTold : List ℕ → Read.Answer → Type 0
 ReadTold s Read.moreNeeded = readNumber s Read.moreNeeded < topBit
-ReadTold s (Read.refused number taken) = Unit {0}
+ReadTold s (Read.refused number taken) = IsRefusal (readNumber s (Read.refused number taken)) number
 ReadTold s (Read.accepted fields taken) = readNumber s (Read.accepted fields taken) < topBit
 
 abbrev pub WriteTold : Write.Verdict → Type 0
-WriteTold (Write.refused number) = Unit {0}
+WriteTold (Write.refused number) = IsRefusal (writeNumber (Write.refused number)) number
 WriteTold (Write.written count) = writeNumber (Write.written count) < topBit
 
 abbrev pub TagTold : Split.Split → Type 0
-TagTold (Split.refused number) = Unit {0}
+TagTold (Split.refused number) = IsRefusal (tagType (Split.refused number)) number
 TagTold (Split.short start) = tagType (Split.short start) < topBit
 TagTold (Split.full spi epoch start end) = tagType (Split.full spi epoch start end) < topBit
 TagTold (Split.extension messageType start end) = tagType (Split.extension messageType start end) < topBit

@@ -1,9 +1,8 @@
 -- What writing a message answers, as a number, and what it leaves in the output: document 01, "Tunnel messages".
-use Prim.Native.Nat.{ℕ, _+_, _≤_}
+use Prim.Native.Nat.{ℕ}
 use mathlib.Core.Path.{_≡_}
 use mathlib.Core.List.{List}
 use lib.ListN.{length}
-use Rattle.message.specs.Limits.{header, bodyLimit}
 use Rattle.message.specs.Message.{Message}
 use Rattle.message.specs.Write.{Verdict, refused, written, writing, output}
 use Rattle.shawm.specs.Refusal.{refusal}
@@ -15,8 +14,3 @@ writeNumber (written count) = count
 -- an exported writer's promise: its answer, and the output before and after
 abbrev pub Exports : Message → (before after : List ℕ) → (answer : ℕ) → Type 0
 Exports m before after answer = (answer ≡ writeNumber (writing m (length before))) × (after ≡ output m before)
-
--- no more is written than the longest message, so a count fits in 32 bits and has no top bit
-abbrev pub WithinLimit : Verdict → Type 0
-WithinLimit (refused number) = Unit {0}
-WithinLimit (written count) = count ≤ header + bodyLimit

@@ -6,12 +6,14 @@ use octets::refusal::IDENTIFIER_LENGTH;
 use octets::refusal::NO_ROOM;
 use octets::refusal::OVERSIZE;
 ghost use mathlib.Core.Path.{_≡_};
+ghost use Prim.Native.Nat.{_^_, _<_};
 ghost use Rattle.message.specs.Message as M;
 ghost use Rattle.message.specs.Write.{verdictOf};
-ghost use Rattle.shawm.specs.Writing.{writeNumber, WithinLimit, Exports};
+ghost use Rattle.shawm.specs.Writing.{writeNumber, Exports};
 
+// Asks for an answer of 32 bits, as that of every writer is: no message is longer than the limit.
 fn write_number(answer: Write) -> u32
-    requires { ⌜ WithinLimit (verdictOf answer) ⌝ }
+    requires { ⌜ writeNumber (verdictOf answer) < 2 ^ 32 ⌝ }
     ensures { λ r. ⌜ r ≡ writeNumber (verdictOf answer) ⌝ }
 {
     match answer {

@@ -1,12 +1,12 @@
 use mathlib.Core.Path.{ap, _∙_}
 use Rattle.shawm.specs.Writing.{writeNumber}
-use Rattle.shawm.proofs.WriteLaws.{within-limit}
+use Rattle.shawm.proofs.WriteLaws.{answer-fits}
 use borrow.Author.Needs.{needs}
 use Rattle.shawm.proofs.writing.shawm_write_media_keys.Statement.{statement}
 use Rattle.shawm.proofs.writing.shawm_write_media_keys.Tie as tie
 
 write-number-requires : tie.Need-write-number-requires
-write-number-requires c κs = within-limit _ _ _ (c .before .before .write-media-keys .ensures .0)
+write-number-requires c κs = answer-fits _ _ _ (c .before .before .write-media-keys .ensures .0)
 
 returns : tie.Need-returns
 returns c = (c .write-number .ensures ∙ ap writeNumber (c .before .before .before .write-media-keys .ensures .0), c .before .before .before .write-media-keys .ensures .1)

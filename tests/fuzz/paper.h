@@ -1,0 +1,46 @@
+/* The rules of document 01 for sorting, messages and the tag, in C, written from the papers alone. With coverage by the
+ * fuzzer's compiler, which the library does not have, they also show it the way to new answers. */
+#ifndef PAPER_H
+#define PAPER_H
+
+#include <stddef.h>
+#include <stdint.h>
+
+/* An answer: a value, or 2^31 with the refusal's number. */
+typedef uint32_t answer;
+
+struct place {
+    size_t start, length;
+};
+
+struct paper_reading {
+    answer answer;
+    size_t taken;
+    struct place places[18];   /* by field number; 0 and 0 where there is none */
+    uint32_t numbers[18];
+};
+
+struct paper_tag {
+    answer answer;
+    struct place parts[4];
+    uint32_t numbers[4];
+};
+
+/* Fields of a message to be written: of type 1 the list, of type 3 MKI, keys and salts, of type 4 the DTLS octets. */
+struct paper_message {
+    int type;
+    uint8_t version;
+    uint16_t profile;
+    const uint8_t *id;
+    size_t id_n;
+    const uint8_t *fields[5];
+    size_t lengths[5];
+};
+
+answer paper_sort(const uint8_t *packet, size_t n);
+struct paper_reading paper_read(const uint8_t *octets, size_t n);
+struct paper_tag paper_split(const uint8_t *packet, size_t n);
+/* Writes into out, which has room for 4,099 octets, what a call with an output of room octets must write. */
+answer paper_write(const struct paper_message *message, size_t room, uint8_t *out);
+
+#endif

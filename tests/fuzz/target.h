@@ -1,0 +1,13 @@
+#ifndef TARGET_H
+#define TARGET_H
+
+#include <stddef.h>
+#include <stdint.h>
+
+/* What a disagreement is printed with. */
+extern const char *input_name;
+
+/* The entry that libFuzzer calls; replay.c calls it too. */
+int LLVMFuzzerTestOneInput(const uint8_t *data, size_t size);
+
+#endif
