@@ -1,8 +1,11 @@
-# make demo         run the worked octets and print each answer
+# make demo         two booths, a branch and a key distributor on one machine, with real handshakes: docs/DEMO.md
 # make test         the whole gate: formatting, tests, proofs, wrong programs, programs
+# make vectors      run the worked octets and print each answer
 # make check        prove what changed and run the programs
 # make fmt          lay the sources out
 # make bench        ns per call and stack of the distributor's calls: docs/BENCHMARKS.md
+# make relay        target/bin/relay, the program that holds the table: docs/RELAY.md
+# make examples     build/branch, a daemon in C; build/branch-demo, the same with the demo's control socket
 #
 # For C (docs/TESTING.md says what each test does):
 # make lib          build/libshawm.a, build/include/shawm.h, build/shawm.pc
@@ -10,11 +13,12 @@
 # make outside      the tests by programs that share nothing with the proofs, as the gate runs them
 # make soak         random comparisons for SOAK_SECONDS (600), from SEED (1) on
 # make faults       wrong libraries, each of which the tests must find
+# make branch-faults  wrong branches, each of which the tests must find
 # make test-clang   the C tests by clang: wants Debian's clang
 # make fuzz         libFuzzer for FUZZ_SECONDS (60): wants Debian's clang
 # make test-tshark  what tshark says of the captured packets, against what is stored: wants Debian's tshark
 # make clean        remove what was built
-.PHONY: demo test check fmt bench lib install uninstall outside soak faults test-clang fuzz test-tshark clean
+.PHONY: demo test vectors check fmt bench relay examples lib install uninstall outside soak faults branch-faults test-clang fuzz test-tshark clean
 
 PREFIX ?= /usr/local
 DESTDIR ?=
@@ -22,12 +26,15 @@ SOAK_SECONDS ?= 600
 FUZZ_SECONDS ?= 60
 SEED ?= 1
 
-demo:
-	@rt check vectors > /dev/null || { rt check vectors | tail -n 20; exit 1; }
-	@target/bin/vectors
+demo: build/branch-demo target/bin/relay
+	@examples/demo
 
 test:
 	bash .ci/run
+
+vectors:
+	@rt check vectors > /dev/null || { rt check vectors | tail -n 20; exit 1; }
+	@target/bin/vectors
 
 check:
 	rt check
@@ -39,6 +46,22 @@ bench:
 	rt staticlib measure
 	cd bench && cargo run --release --offline
 	bench/stack
+
+relay: target/bin/relay
+
+target/bin/relay: crates.txt $(shell find crates -type f)
+	rt check relay
+	@touch $@
+
+branch_sources = $(wildcard examples/branch/*.[ch] examples/branch/control/*.c) examples/branch/build include/shawm.h
+
+examples: build/branch build/branch-demo
+
+build/branch: $(branch_sources) build/libshawm.a
+	bash examples/branch/build $@ none
+
+build/branch-demo: $(branch_sources) build/libshawm.a
+	bash examples/branch/build $@ compare
 
 lib: build/libshawm.a build/include/shawm.h build/shawm.pc
 
@@ -76,6 +99,9 @@ soak: lib
 
 faults:
 	python3 tests/faults/run
+
+branch-faults: build/libshawm.a target/bin/relay
+	python3 tests/branch/faults
 
 test-clang: lib
 	@command -v clang++ > /dev/null || { echo 'wants: apt-get install clang'; exit 1; }

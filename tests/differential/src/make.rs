@@ -258,9 +258,9 @@ fn identifier(random: &mut Random) -> Vec<u8> {
 
 fn supported_profiles(random: &mut Random) -> Case {
     let n = match random.below(200) {
-        0 => random.within(65_530, 65_538),
-        1 => random.within(4091, 4096),
-        2..=20 => random.below(6),
+        0..=3 => random.within(65_530, 65_538),
+        4..=6 => random.within(4091, 4096),
+        7..=20 => random.below(6),
         _ => random.within(1, 40),
     };
     let list = random.octets(n);

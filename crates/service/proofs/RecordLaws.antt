@@ -1,0 +1,125 @@
+-- A record written in pieces.
+use Prim.Native.Nat.{ℕ, zero, suc, _+_, _-_, _*_, _≤_, min}
+use mathlib.Core.Path.{_≡_, refl, sym, ap, _∙_}
+use mathlib.Core.Bool.{true, false}
+use mathlib.Core.List.{List, [], _∷_, _++_, append-assoc}
+use native.Mathlib.Omega.{arith}
+use lib.ListN.{length, take, replicate, length-append, length-take, length-replicate}
+use lib.Seq.{take-append-add}
+use Rattle.octets.specs.Number.{octets16}
+use Rattle.octets.specs.Part.{part}
+use Rattle.octets.specs.Write.{over}
+use Rattle.octets.proofs.PartLaws.{part-front}
+use Rattle.message.specs.Limits.{width, mkiLimit}
+use Rattle.distributor.specs.Answer.{opened, keyed, found}
+use Rattle.distributor.specs.Keys.{Keys}
+use Rattle.distributor.specs.Layout.{padded, field, octetsOf32}
+use Rattle.distributor.specs.Limits.{keyLimit}
+use Rattle.distributor.proofs.FieldLaws.{field-length}
+use Rattle.service.specs.Limits.{keysLength, recordLength}
+use Rattle.distributor.specs.Record.{keysRead, associationIn}
+use Rattle.distributor.specs.declared.looking.Record.{Record}
+use Rattle.service.specs.Reply.{Replies, frameOf, keysOctets, noKeysOctets, answerOctets}
+use Rattle.service.proofs.PieceLaws.{Put, Over, whole, more, three, from-front}
+use Rattle.service.proofs.FrameLaws.{framed, same-answer}
+
+-- ---- a field: its length, its octets, zeros
+
+-- the octets that the length says
+module _ (s : List ℕ) (n : ℕ) where
+  pub front-short : length (part s 0 n) ≤ n
+  front-short = rw (part-front s n, length-take n s) (omega arith)
+
+  pub front-within : length (part s 0 n) ≤ length s
+  front-within = rw (part-front s n, length-take n s) (omega arith)
+
+zeros : (k m : ℕ) → k ≤ m → take {A = ℕ} k (replicate m 0) ≡ replicate k 0
+zeros zero m h = refl
+zeros (suc k) zero h = absurd (omega arith)
+zeros (suc k) (suc m) h = ap (λ (l : List ℕ). 0 ∷ l) (zeros k m (omega arith))
+
+padded-out : (x : List ℕ) (limit : ℕ) → length x ≤ limit → limit ≤ keyLimit
+    → x ++ part (replicate keyLimit 0) 0 (limit - length x) ≡ padded limit x
+unfolding padded
+padded-out x limit h k =
+    let e : length x + (limit - length x) ≡ limit = omega arith in
+    ap (λ (l : List ℕ). x ++ l) (part-front (replicate keyLimit 0) (limit - length x) ∙ zeros (limit - length x) keyLimit (omega arith) ∙ sym (zeros (limit - length x) limit (omega arith)))
+    ∙ sym (take-append-add x (replicate limit 0) (limit - length x))
+    ∙ ap (λ (n : ℕ). take n (x ++ replicate limit 0)) e
+
+module _ (l : List ℕ) (at limit : ℕ) (field-whole : List ℕ) (n : ℕ) where
+  pub field-done : {s zs x y z : List ℕ} {i j k : ℕ} → length field-whole ≡ limit → limit ≤ keyLimit → at + 1 + limit ≤ length l
+      → s ≡ part field-whole 0 n → zs ≡ part (replicate keyLimit 0) 0 (limit - length s)
+      → Put l at (length s ∷ []) x i → Put x i s y j → Put y j zs z k → z ≡ over l at (field limit (take n field-whole))
+  field-done {s} {zs} e lim room p q a b c =
+      let short : length s ≤ limit = rw p (omega (arith, front-within field-whole n)) in
+      let f : (length s ∷ s) ++ zs ≡ field limit s = ap (λ (r : List ℕ). length s ∷ r) (ap (λ (r : List ℕ). s ++ r) q ∙ padded-out s limit short lim) in
+      let g : length ((length s ∷ s) ++ zs) ≡ 1 + limit = ap length f ∙ field-length limit s in
+      let h : length ((length s ∷ s) ++ zs) ≡ 1 + length s + length zs = length-append (length s ∷ s) zs ∙ omega arith in
+      three l at (length s ∷ []) s zs (omega arith) a b c .1
+      ∙ ap (over l at) (f ∙ ap (field limit) (p ∙ part-front field-whole n))
+
+-- its end by its length
+pub fielded : (l : List ℕ) (at limit : ℕ) (x : List ℕ) {y : List ℕ} {to : ℕ} → (to ≡ at + 1 + limit) × (y ≡ over l at (field limit x)) → Over l at (field limit x) y to
+fielded l at limit x o = (o .0 ∙ omega (arith, field-length limit x), o .1)
+
+-- ---- the key fields
+
+pair-length : (x y : List ℕ) → length (field keyLimit x ++ field keyLimit y) ≡ 2 * (1 + keyLimit)
+pair-length x y = length-append (field keyLimit x) (field keyLimit y) ∙ omega (arith, field-length keyLimit x, field-length keyLimit y)
+
+pub paired : (l : List ℕ) (at : ℕ) (x y : List ℕ) {z : List ℕ} {to : ℕ} → (to ≡ at + 2 * (1 + keyLimit)) × (z ≡ over l at (field keyLimit x ++ field keyLimit y))
+    → Over l at (field keyLimit x ++ field keyLimit y) z to
+paired l at x y o = (o .0 ∙ omega (arith, pair-length x y), o .1)
+
+regroup : (a b c d e f : List ℕ) → ((a ++ b) ++ (c ++ d)) ++ (e ++ f) ≡ a ++ b ++ c ++ d ++ e ++ f
+regroup a b c d e f = simp append-assoc
+
+module _ (l : List ℕ) (at : ℕ) (k : Keys) (room : at + keysLength ≤ length l) where
+  pub keys-done : {w x y z : List ℕ} {i keys salts to : ℕ} → Put l at (octets16 (k .profile)) w i
+      → (keys ≡ at + 2 + 1 + mkiLimit) × (x ≡ over w (at + 2) (field mkiLimit (k .mki)))
+      → (salts ≡ keys + 2 * (1 + keyLimit)) × (y ≡ over x keys (field keyLimit (k .clientKey) ++ field keyLimit (k .serverKey)))
+      → (to ≡ salts + 2 * (1 + keyLimit)) × (z ≡ over y salts (field keyLimit (k .clientSalt) ++ field keyLimit (k .serverSalt)))
+      → (to ≡ at + keysLength) × (z ≡ over l at (keysOctets k))
+  keys-done {w} {x} {y} {z} {i} {keys} {salts} {to} p m c s =
+      let h : at ≤ length l = omega arith in
+      let a : Over l at (octets16 (k .profile)) w (at + 2) = (refl, whole l at (octets16 (k .profile)) (omega arith) p .1) in
+      let b = more l at _ _ h a (fielded w (at + 2) mkiLimit (k .mki) m) in
+      let d = more l at _ _ h b (paired x keys (k .clientKey) (k .serverKey) c) in
+      let e = more l at _ _ h d (paired y salts (k .clientSalt) (k .serverSalt) s) in
+      (omega (arith, m .0, c .0, s .0), e .1 ∙ ap (over l at) (regroup (octets16 (k .profile)) (field mkiLimit (k .mki)) (field keyLimit (k .clientKey)) (field keyLimit (k .serverKey)) (field keyLimit (k .clientSalt)) (field keyLimit (k .serverSalt))))
+
+pub keys-length : (k : Keys) → length (keysOctets k) ≡ keysLength
+keys-length k =
+    simp length-append
+    (omega (arith, field-length mkiLimit (k .mki), field-length keyLimit (k .clientKey), field-length keyLimit (k .serverKey), field-length keyLimit (k .clientSalt), field-length keyLimit (k .serverSalt)))
+
+-- ---- the whole answer
+
+pub record-done : (l i t : List ℕ) (state e : ℕ) {x y : List ℕ} {at to : ℕ} → length i ≡ width → length t ≡ keysLength
+    → (at ≡ 8 + width) × (x ≡ over l 0 ((0 ∷ 173 ∷ 5 ∷ state ∷ i) ++ octetsOf32 e))
+    → Over x at t y to
+    → Replies (frameOf (5 ∷ (state ∷ i) ++ octetsOf32 e ++ t)) l y to
+record-done l i t state e {x} {y} {at} {to} h k a b =
+    let p : List ℕ = 0 ∷ 173 ∷ 5 ∷ state ∷ i in
+    let f : length (p ++ octetsOf32 e) ≡ 8 + width = length-append p (octetsOf32 e) ∙ omega arith in
+    let o : Over l 0 (p ++ octetsOf32 e) x at = (a .0 ∙ omega arith, a .1) in
+    let w = from-front l ((p ++ octetsOf32 e) ++ t) (more l 0 (p ++ octetsOf32 e) t (omega arith) o b) in
+    let n : 1 + recordLength ≡ length (5 ∷ (state ∷ i) ++ octetsOf32 e ++ t) = omega (arith, length-append (p ++ octetsOf32 e) t) in
+    framed l (5 ∷ (state ∷ i) ++ octetsOf32 e ++ t) (1 + recordLength) n w
+
+module _ (l : List ℕ) (r : Record) (h : length (r .identifier) ≡ width) {x y : List ℕ} {at to : ℕ} where
+  pub found-keyed : r .keyed ≡ true → (at ≡ 8 + width) × (x ≡ over l 0 ((0 ∷ 173 ∷ 5 ∷ 2 ∷ r .identifier) ++ octetsOf32 (r .endpoint)))
+      → (to ≡ at + keysLength) × (y ≡ over x at (keysOctets (keysRead (r .keys))))
+      → Replies (frameOf (answerOctets [] (found (associationIn r)))) l y to
+  found-keyed e a b =
+      let k = keys-length (keysRead (r .keys)) in
+      same-answer l [] (found (keyed (r .identifier) (r .endpoint) (keysRead (r .keys)))) {b = found (associationIn r)} (rw e)
+      (record-done l (r .identifier) (keysOctets (keysRead (r .keys))) 2 (r .endpoint) h k a (b .0 ∙ omega arith, b .1))
+
+  pub found-opened : r .keyed ≡ false → (at ≡ 8 + width) × (x ≡ over l 0 ((0 ∷ 173 ∷ 5 ∷ 1 ∷ r .identifier) ++ octetsOf32 (r .endpoint)))
+      → at + keysLength ≤ length x → Put x at noKeysOctets y to → Replies (frameOf (answerOctets [] (found (associationIn r)))) l y to
+  found-opened e a room b =
+      let n : length noKeysOctets ≡ keysLength = length-replicate {A = ℕ} keysLength 0 in
+      same-answer l [] (found (opened (r .identifier) (r .endpoint))) {b = found (associationIn r)} (rw e)
+      (record-done l (r .identifier) noKeysOctets 1 (r .endpoint) h n a (whole x at noKeysOctets (omega arith) b))

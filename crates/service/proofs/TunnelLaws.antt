@@ -1,0 +1,90 @@
+-- What Tunnel octets answers: never what only other calls answer, and a delivery that fits a frame.
+use Prim.Native.Nat.{ℕ, _+_, _-_, _≤_}
+use mathlib.Core.Path.{_≡_, refl, sym, subst}
+use mathlib.Core.Bool.{Bool, true, false, cond}
+use mathlib.Core.List.{List, _∷_, _++_}
+use native.Mathlib.Omega.{arith}
+use lib.Dec.{eqb}
+use lib.ListN.{length, take, drop, length-take, length-drop}
+use Rattle.octets.specs.Bounds.{partIn}
+use Rattle.octets.specs.Number.{octets16}
+use Rattle.octets.specs.Part.{part}
+use Rattle.octets.specs.declared.parts.Bounds.{Bounds}
+use Rattle.octets.proofs.Tests.{by-choice}
+use Rattle.message.specs.Limits.{width, header}
+use Rattle.message.specs.Parts.{identifierPlace, dtlsPlace}
+use Rattle.message.specs.Read as Read
+use Rattle.message.specs.declared.bodies.Fields.{Fields}
+use Rattle.message.specs.declared.bodies.Fields.the-variants.{SupportedProfiles, UnsupportedVersion, MediaKeys, TunneledDtls, EndpointDisconnect}
+use Rattle.distributor.specs.Answer.{Answer, refused, moreNeeded, wrote, placed, ended, found, keysStored, delivery, removed, version, answered}
+use Rattle.distributor.specs.Layout.{up, endpointOf, rowOf, octetsOf32}
+use Rattle.distributor.specs.Outcomes.{receivedOf}
+use Rattle.distributor.specs.Refusals.{receiving}
+use Rattle.distributor.specs.Table.{placeOfIdentifier, knows, keysVerdict, fieldsAnswer, readAnswer, octetsAnswer}
+use Rattle.distributor.specs.Verdict.{Verdict, allowed, refusal}
+use Rattle.distributor.specs.declared.receiving.Received.{Received}
+use Rattle.service.specs.Limits.{room, answerLimit}
+use Rattle.service.specs.Reply.{Replies, frameOf}
+
+-- an answer of Tunnel octets; a delivery's octets stand behind the identifier and the length
+abbrev OfTunnel : Answer → Type 0
+OfTunnel (refused number taken) = Unit {0}
+OfTunnel moreNeeded = Unit {0}
+OfTunnel (wrote octets) = ⊥
+OfTunnel (placed place) = ⊥
+OfTunnel ended = ⊥
+OfTunnel (found a) = ⊥
+OfTunnel (keysStored taken) = Unit {0}
+OfTunnel (delivery endpoint dtls taken) = dtls .start ≡ header + width + 2
+OfTunnel (removed taken) = Unit {0}
+OfTunnel (version number taken) = Unit {0}
+
+of-verdict : (w : Verdict) (taken : ℕ) → OfTunnel (answered w taken (keysStored taken))
+of-verdict allowed taken = tt
+of-verdict (refusal number) taken = tt
+
+module _ (s octets : List ℕ) where
+  of-fields : (f : Fields) (taken : ℕ) → OfTunnel (fieldsAnswer s octets f taken)
+  unfolding fieldsAnswer
+  of-fields (SupportedProfiles v n) taken = tt
+  of-fields (UnsupportedVersion v) taken = tt
+  of-fields (MediaKeys profile k) taken = of-verdict (keysVerdict s (partIn octets identifierPlace) profile k) taken
+  of-fields (TunneledDtls n) taken =
+      by-choice OfTunnel (knows s (partIn octets identifierPlace))
+      (delivery (endpointOf (rowOf s (placeOfIdentifier s (partIn octets identifierPlace)))) (dtlsPlace n) taken) (refused 6 taken) (λ h. refl) (λ h. tt)
+  of-fields EndpointDisconnect taken =
+      by-choice OfTunnel (knows s (partIn octets identifierPlace)) (removed taken) (refused 6 taken) (λ h. tt) (λ h. tt)
+
+  of-reading : (r : Read.Answer) → OfTunnel (readAnswer s octets r)
+  of-reading Read.moreNeeded = tt
+  of-reading (Read.refused number taken) = tt
+  of-reading (Read.accepted f taken) = of-fields f taken
+
+  of-octets : OfTunnel (octetsAnswer s octets)
+  unfolding octetsAnswer
+  of-octets = by-choice OfTunnel (up s) (readAnswer s octets (receiving octets)) (refused 1 0) (λ h. of-reading (receiving octets)) (λ h. tt)
+
+  -- a refusal is one
+  not-ended : (b : Bool) (a : Answer) → cond b ended a ≡ octetsAnswer s octets → a ≡ octetsAnswer s octets
+  not-ended true a e = absurd (subst OfTunnel (sym e) of-octets)
+  not-ended false a e = e
+
+  pub refused-received : (number taken : ℕ) → receivedOf (Received.Refused number taken) ≡ octetsAnswer s octets → refused number taken ≡ octetsAnswer s octets
+  refused-received number taken e = not-ended (eqb number 5) (refused number taken) e
+
+  -- a delivery's octets fit behind the head, the octets taken and the endpoint
+  pub delivery-fits : (endpoint : ℕ) (dtls : Bounds) (taken : ℕ) → delivery endpoint dtls taken ≡ octetsAnswer s octets → length octets ≤ room
+      → 9 + length (partIn octets dtls) ≤ answerLimit
+  unfolding part
+  delivery-fits endpoint dtls taken e h =
+      let k : dtls .start ≡ header + width + 2 = subst OfTunnel (sym e) of-octets in
+      let a = length-take (dtls .end - dtls .start) (drop (dtls .start) octets) in
+      let b = length-drop (dtls .start) octets in
+      omega arith
+
+-- the octets delivered, as a part of those lent
+pub same-octets : (l : List ℕ) (endpoint taken : ℕ) (d : List ℕ) {e x : List ℕ} {to : ℕ} → d ≡ e
+    → Replies (frameOf ((7 ∷ octets16 taken) ++ octetsOf32 endpoint ++ d)) l x to
+    → Replies (frameOf ((7 ∷ octets16 taken) ++ octetsOf32 endpoint ++ e)) l x to
+same-octets l endpoint taken d {e} {x} {to} h o =
+    subst (λ (f : List ℕ). Replies (frameOf ((7 ∷ octets16 taken) ++ octetsOf32 endpoint ++ f)) l x to) h o

@@ -1,0 +1,5 @@
+pub mod Limits
+pub mod Request
+pub mod Reply
+pub mod Sending
+pub mod Served

@@ -1,0 +1,18 @@
+-- What is left to write of the answer to a call that writes: its message, where it wrote one, stands behind the head already.
+use Prim.Native.Nat.{ℕ, _+_}
+use mathlib.Core.List.{List, [], _∷_, _++_}
+use lib.ListN.{length}
+use Rattle.octets.specs.Number.{octets16}
+use Rattle.distributor.specs.Answer.{refused}
+use Rattle.distributor.specs.declared.sending.Sent.{Sent}
+use Rattle.service.specs.Limits.{headLength}
+use Rattle.service.specs.Reply.{frameOf, answerOctets}
+
+-- the octets behind the head
+abbrev pub behindHead : Sent → ℕ
+behindHead (Sent.Refused number) = 3
+behindHead (Sent.Written count) = count
+
+abbrev pub front : Sent → List ℕ
+front (Sent.Refused number) = frameOf (answerOctets [] (refused number 0))
+front (Sent.Written count) = octets16 (1 + count) ++ 2 ∷ []

@@ -1,0 +1,123 @@
+// Answer frames, each written at the front of an output that has room for it; each function answers
+// the frame's length.
+use crate::limits::HEAD;
+use distributor::Sent;
+ghost use mathlib.Core.Path.{_≡_};
+ghost use mathlib.Core.List.{[], _∷_, _++_};
+ghost use Prim.Native.Nat.{_+_, _≤_};
+ghost use lib.ListN.{length};
+ghost use Rattle.octets.specs.Number.{octets16};
+ghost use Rattle.octets.specs.Write.{over};
+ghost use Rattle.distributor.specs.Answer as Answer;
+ghost use Rattle.distributor.specs.Layout.{octetsOf32};
+ghost use Rattle.service.specs.Limits.{answerLimit, endpointLength, headLength};
+ghost use Rattle.service.specs.Reply as Spec;
+ghost use Rattle.service.specs.Sending as Sending;
+
+// The kinds of answers, in the order of docs/RELAY.md.
+pub const MORE_NEEDED: u8 = 0;
+
+pub const REFUSED: u8 = 1;
+
+pub const WRITTEN: u8 = 2;
+
+pub const PLACED: u8 = 3;
+
+pub const ENDED: u8 = 4;
+
+pub const FOUND: u8 = 5;
+
+pub const KEYS_STORED: u8 = 6;
+
+pub const DELIVERY: u8 = 7;
+
+pub const REMOVED: u8 = 8;
+
+pub const VERSION: u8 = 9;
+
+// The relay's own: no call was made.
+pub const UNKNOWN: u8 = 128;
+
+pub const TOO_LONG: u8 = 129;
+
+pub const MISSHAPEN: u8 = 130;
+
+// An answer that is its kind alone.
+pub(crate) fn plain(out: &mut [u8], kind: u8) -> usize
+    requires { ⌜ length (now out) ≡ answerLimit ⌝ }
+    ensures { λ r. ⌜ Spec.Replies (Spec.frameOf (kind ∷ [])) (now (out .entry)) (now (out .exit)) r ⌝ }
+{
+    octets::put_octets(out, 0, &[0, 1, kind])
+}
+
+pub(crate) fn refused(out: &mut [u8], number: u8, taken: usize) -> usize
+    requires { ⌜ length (now out) ≡ answerLimit ⌝ }
+    ensures { λ r. ⌜ Spec.Replies (Spec.frameOf (Spec.answerOctets [] (Answer.refused number taken))) (now (out .entry)) (now (out .exit)) r ⌝ }
+{
+    let high = (taken / 256 % 256) as u8;
+    let low = (taken % 256) as u8;
+    octets::put_octets(out, 0, &[0, 4, REFUSED, number, high, low])
+}
+
+// A kind with one number: a place, or octets taken.
+pub(crate) fn numbered(out: &mut [u8], kind: u8, n: usize) -> usize
+    requires { ⌜ length (now out) ≡ answerLimit ⌝ }
+    ensures { λ r. ⌜ Spec.Replies (Spec.frameOf (kind ∷ octets16 n)) (now (out .entry)) (now (out .exit)) r ⌝ }
+{
+    let high = (n / 256 % 256) as u8;
+    let low = (n % 256) as u8;
+    octets::put_octets(out, 0, &[0, 3, kind, high, low])
+}
+
+pub(crate) fn version(out: &mut [u8], number: u8, taken: usize) -> usize
+    requires { ⌜ length (now out) ≡ answerLimit ⌝ }
+    ensures { λ r. ⌜ Spec.Replies (Spec.frameOf (Spec.answerOctets [] (Answer.version number taken))) (now (out .entry)) (now (out .exit)) r ⌝ }
+{
+    let high = (taken / 256 % 256) as u8;
+    let low = (taken % 256) as u8;
+    octets::put_octets(out, 0, &[0, 4, VERSION, high, low, number])
+}
+
+// Octets for an endpoint.
+pub(crate) fn delivery(out: &mut [u8], endpoint: u32, dtls: &[u8], taken: usize) -> usize
+    requires { ⌜ (length (now out) ≡ answerLimit) × (headLength + 2 + endpointLength + length (now dtls) ≤ answerLimit) ⌝ }
+    ensures { λ r. ⌜ Spec.Replies (Spec.frameOf ((7 ∷ octets16 taken) ++ octetsOf32 endpoint ++ now (dtls .entry))) (now (out .entry)) (now (out .exit)) r ⌝ }
+{
+    let n = 7 + dtls.len();
+    let front = [
+        (n / 256 % 256) as u8,
+        (n % 256) as u8,
+        DELIVERY,
+        (taken / 256 % 256) as u8,
+        (taken % 256) as u8,
+        (endpoint / 16777216) as u8,
+        (endpoint / 65536 % 256) as u8,
+        (endpoint / 256 % 256) as u8,
+        (endpoint % 256) as u8,
+    ];
+    let at = octets::put_octets(out, 0, &front);
+    octets::put_octets(out, at, dtls)
+}
+
+// The head of an answer whose message stands behind it already.
+fn written(out: &mut [u8], count: usize) -> usize
+    requires { ⌜ (length (now out) ≡ answerLimit) × (headLength + count ≤ answerLimit) ⌝ }
+    ensures { λ r. ⌜ (r ≡ headLength + count) × (now (out .exit) ≡ over (now (out .entry)) 0 (octets16 (1 + count) ++ 2 ∷ [])) ⌝ }
+{
+    let n = 1 + count;
+    let high = (n / 256 % 256) as u8;
+    let low = (n % 256) as u8;
+    octets::put_octets(out, 0, &[high, low, WRITTEN]);
+    HEAD + count
+}
+
+// What a call that writes has sent.
+pub(crate) fn sent(out: &mut [u8], what: Sent) -> usize
+    requires { ⌜ (length (now out) ≡ answerLimit) × (headLength + Sending.behindHead what ≤ answerLimit) ⌝ }
+    ensures { λ r. ⌜ (r ≡ headLength + Sending.behindHead what) × (now (out .exit) ≡ over (now (out .entry)) 0 (Sending.front what)) ⌝ }
+{
+    match what {
+        Sent::Written { count } => written(out, count),
+        Sent::Refused { number } => refused(out, number, 0),
+    }
+}

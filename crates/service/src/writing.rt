@@ -1,0 +1,40 @@
+// Requests whose calls write a message: Start, Booth packet, Close.
+use crate::answers;
+use crate::kind::Kind;
+use crate::limits::ENDPOINT;
+use crate::limits::HEAD;
+use distributor::BLOCK;
+ghost use mathlib.Core.Path.{_≡_};
+ghost use lib.ListN.{length};
+ghost use Rattle.service.specs.Limits.{answerLimit};
+ghost use Rattle.service.specs.Request as Request;
+ghost use Rattle.service.specs.Reply as Spec;
+
+pub(crate) fn start(state: &mut [u8; BLOCK], body: &[u8], out: &mut [u8]) -> usize
+    requires { ⌜ length (now out) ≡ answerLimit ⌝ }
+    ensures { λ r. ⌜ Spec.Serves (Request.requestBy Kind.Start (now (body .entry))) (now (state .entry)) (now (state .exit)) (now (out .entry)) (now (out .exit)) r ⌝ }
+{
+    let sent = distributor::start(state, body, &mut out[HEAD..]);
+    answers::sent(out, sent)
+}
+
+pub(crate) fn booth_packet(state: &[u8; BLOCK], body: &[u8], out: &mut [u8]) -> usize
+    requires { ⌜ length (now out) ≡ answerLimit ⌝ }
+    ensures { λ r. ⌜ Spec.Replies (Spec.reply (now (state .entry)) (Request.requestBy Kind.BoothPacket (now (body .entry)))) (now (out .entry)) (now (out .exit)) r ⌝ }
+{
+    if body.len() < ENDPOINT {
+        return answers::plain(out, answers::MISSHAPEN);
+    }
+    let endpoint = octets::number32(body, 0);
+    let packet = &body[ENDPOINT..];
+    let sent = distributor::booth_packet(state, endpoint, packet, &mut out[HEAD..]);
+    answers::sent(out, sent)
+}
+
+pub(crate) fn close(state: &mut [u8; BLOCK], body: &[u8], out: &mut [u8]) -> usize
+    requires { ⌜ length (now out) ≡ answerLimit ⌝ }
+    ensures { λ r. ⌜ Spec.Serves (Request.requestBy Kind.Close (now (body .entry))) (now (state .entry)) (now (state .exit)) (now (out .entry)) (now (out .exit)) r ⌝ }
+{
+    let sent = distributor::close(state, body, &mut out[HEAD..]);
+    answers::sent(out, sent)
+}

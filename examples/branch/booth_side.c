@@ -1,0 +1,126 @@
+/* From a booth: what kind of packet it is decides where it goes (RFC 5764, section 5.1.2). */
+#include "branch.h"
+
+#include "clock.h"
+#include "identifier.h"
+#include "log.h"
+#include "refusal.h"
+
+#include <errno.h>
+#include <string.h>
+
+static void refused(const char *name, const char *what, unsigned number)
+{
+    say("booth %s: %s refused, %u: %s", name, what, number, refusal_meaning(number));
+}
+
+/* A booth that sends its first DTLS packet gets an association. *opened is NULL where that was refused. */
+static int open_booth(struct branch *branch, const struct address *from, struct booth **opened)
+{
+    struct booth *booth = booths_add(&branch->booths, from, now());
+    char name[ADDRESS_TEXT], id[IDENTIFIER_TEXT];
+    struct answer answer;
+
+    *opened = NULL;
+    if (booth == NULL || identifier_make(booth->identifier) != 0) {
+        address_text(from, name);
+        say("booth %s: not opened: %s", name, booth == NULL ? "too many booths" : strerror(errno));
+        if (booth != NULL)
+            booths_remove(booth);
+        return 0;
+    }
+    if (relay_open(&branch->relay, booth->endpoint, booth->identifier, &answer) != 0)
+        return -1;
+    if (answer.kind == ANSWER_REFUSED) {
+        refused(booth->name, "opening", answer.number);
+        booths_remove(booth);
+        return 0;
+    }
+    identifier_text(booth->identifier, id);
+    say("booth %s: endpoint %lu, association %s opened at place %u", booth->name, (unsigned long)booth->endpoint, id,
+        answer.number);
+    *opened = booth;
+    return 0;
+}
+
+/* To the key distributor. The relay alone judges what is DTLS; one that was cut is longer than any that it takes. */
+static int to_tunnel(struct branch *branch, struct booth *booth, const struct packet *packet)
+{
+    struct answer answer;
+
+    if (relay_packet(&branch->relay, booth->endpoint, packet->octets, packet->n, &answer) != 0)
+        return -1;
+    if (answer.kind == ANSWER_REFUSED) {
+        refused(booth->name, "packet", answer.number);
+        return 0;
+    }
+    booth->heard = now();
+    if (tunnel_queue(&branch->tunnel, answer.octets, answer.n, TUNNEL_SPARE) != 0)
+        say("booth %s: packet lost: the key distributor does not keep up", booth->name);
+    return 0;
+}
+
+static const char *tag_kind(uint32_t tag)
+{
+    if (shawm_is_refusal(tag))
+        return "no EKT tag: refused, 18: no EKT tag ends this packet";
+    if (tag == SHAWM_TAG_SHORT)
+        return "a Short EKT tag";
+    return tag == SHAWM_TAG_FULL ? "a Full EKT tag" : "an Extension EKT tag";
+}
+
+/* Media goes to the media code, with the keys of the booth's record: here is its place. The log says what kind of tag
+ * ends the packet, when that is another than before. */
+static void media(struct booth *booth, const struct packet *packet)
+{
+    uint32_t tag = shawm_tag(packet->octets, packet->n);
+
+    booth->heard = now();
+    if (packet->cut) {
+        say("booth %s: media dropped: above %d octets", booth->name, UDP_PACKET);
+        return;
+    }
+    if (tag != booth->tag)
+        say("booth %s: media with %s", booth->name, tag_kind(tag));
+    booth->tag = tag;
+}
+
+/* From an address that has no association. */
+static int from_unknown(struct branch *branch, uint32_t kind, const struct packet *packet)
+{
+    char name[ADDRESS_TEXT];
+    struct booth *booth;
+
+    if (kind != SHAWM_KIND_DTLS) {
+        address_text(&packet->from, name);
+        say("booth %s: packet dropped: not DTLS, and no association with that address", name);
+        return 0;
+    }
+    if (open_booth(branch, &packet->from, &booth) != 0)
+        return -1;
+    return booth == NULL ? 0 : to_tunnel(branch, booth, packet);
+}
+
+int branch_packet(struct branch *branch, const struct packet *packet)
+{
+    struct booth *booth = booths_by_address(&branch->booths, &packet->from);
+    uint32_t kind = shawm_sort(packet->octets, packet->n);
+    char name[ADDRESS_TEXT];
+
+    if (shawm_is_refusal(kind)) {
+        address_text(&packet->from, name);
+        refused(name, "packet", shawm_refusal_number(kind));
+        return 0;
+    }
+    if (booth == NULL)
+        return from_unknown(branch, kind, packet);
+    if (kind == SHAWM_KIND_STUN) {
+        say("booth %s: STUN, which belongs to others", booth->name);
+        return 0;
+    }
+    if (kind == SHAWM_KIND_RTP) {
+        media(booth, packet);
+        return 0;
+    }
+    return to_tunnel(branch, booth, packet);
+}

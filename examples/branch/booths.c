@@ -1,0 +1,90 @@
+#include "booths.h"
+
+#include <string.h>
+
+/* No packet of it has come yet: no answer of shawm_tag is this. */
+enum { NO_MEDIA_YET = 256 };
+
+struct booth *booths_by_address(struct booths *booths, const struct address *address)
+{
+    size_t i;
+
+    for (i = 0; i < BOOTHS; i++)
+        if (booths->all[i].live && address_same(&booths->all[i].address, address))
+            return &booths->all[i];
+    return NULL;
+}
+
+struct booth *booths_by_endpoint(struct booths *booths, uint32_t endpoint)
+{
+    size_t i;
+
+    for (i = 0; i < BOOTHS; i++)
+        if (booths->all[i].live && booths->all[i].endpoint == endpoint)
+            return &booths->all[i];
+    return NULL;
+}
+
+struct booth *booths_by_identifier(struct booths *booths, const uint8_t id[SHAWM_IDENTIFIER_OCTETS])
+{
+    size_t i;
+
+    for (i = 0; i < BOOTHS; i++)
+        if (booths->all[i].live && memcmp(booths->all[i].identifier, id, SHAWM_IDENTIFIER_OCTETS) == 0)
+            return &booths->all[i];
+    return NULL;
+}
+
+struct booth *booths_most_idle(struct booths *booths)
+{
+    struct booth *idle = NULL;
+    size_t i;
+
+    for (i = 0; i < BOOTHS; i++)
+        if (booths->all[i].live && (idle == NULL || booths->all[i].heard < idle->heard))
+            idle = &booths->all[i];
+    return idle;
+}
+
+static struct booth *vacant(struct booths *booths)
+{
+    size_t i;
+
+    for (i = 0; i < BOOTHS; i++)
+        if (!booths->all[i].live)
+            return &booths->all[i];
+    return NULL;
+}
+
+struct booth *booths_add(struct booths *booths, const struct address *address, int64_t heard)
+{
+    struct booth *booth = vacant(booths);
+
+    if (booth == NULL)
+        return NULL;
+    memset(booth, 0, sizeof *booth);
+    booth->live = 1;
+    booth->address = *address;
+    address_text(address, booth->name);
+    booth->endpoint = ++booths->last;
+    booth->heard = heard;
+    booth->tag = NO_MEDIA_YET;
+    return booth;
+}
+
+void booths_remove(struct booth *booth)
+{
+    memset(booth, 0, sizeof *booth);
+}
+
+unsigned booths_clear(struct booths *booths)
+{
+    unsigned count = 0;
+    size_t i;
+
+    for (i = 0; i < BOOTHS; i++) {
+        count += booths->all[i].live != 0;
+        booths_remove(&booths->all[i]);
+    }
+    return count;
+}

@@ -1,0 +1,121 @@
+/* From the key distributor: messages cut anywhere, one behind the other. */
+#include "branch.h"
+
+#include "log.h"
+#include "refusal.h"
+#include "wipe.h"
+
+#include <errno.h>
+#include <stdio.h>
+#include <string.h>
+
+/* The booth whose association the message at the front names. The relay has accepted the message, so it has one. */
+static struct booth *named(struct branch *branch)
+{
+    struct shawm_part id = shawm_field(branch->tunnel.in, branch->tunnel.in_n, SHAWM_FIELD_IDENTIFIER);
+
+    return id.n == SHAWM_IDENTIFIER_OCTETS ? booths_by_identifier(&branch->booths, id.at) : NULL;
+}
+
+/* The keys are in the table: looks them up for the media code, which would take the record here. */
+static int stored(struct branch *branch, struct booth *booth)
+{
+    struct answer answer;
+    struct record record;
+
+    if (booth == NULL) {
+        say("tunnel: keys stored for an association that no booth has");
+        return 0;
+    }
+    if (relay_look(&branch->relay, booth->endpoint, &record, &answer) != 0)
+        return -1;
+    if (answer.kind == ANSWER_REFUSED)
+        say("booth %s: look refused, %u: %s", booth->name, answer.number, refusal_meaning(answer.number));
+    else
+        say("booth %s: keys stored for endpoint %lu: profile 0x%04x, keys of %zu and %zu octets, salts of %zu and %zu, "
+            "MKI of %zu", booth->name, (unsigned long)booth->endpoint, record_profile(&record),
+            record_length(&record, RECORD_CLIENT_KEY), record_length(&record, RECORD_SERVER_KEY),
+            record_length(&record, RECORD_CLIENT_SALT), record_length(&record, RECORD_SERVER_SALT),
+            record_length(&record, RECORD_MKI));
+    wipe(&record, sizeof record);
+    return 0;
+}
+
+static void deliver(struct branch *branch, const struct answer *answer)
+{
+    struct booth *booth = booths_by_endpoint(&branch->booths, answer->endpoint);
+
+    if (booth == NULL)
+        say("tunnel: DTLS packet for endpoint %lu, which no booth has", (unsigned long)answer->endpoint);
+    else if (udp_send(branch->udp, &booth->address, answer->octets, answer->n) != 0)
+        say("booth %s: DTLS packet lost: %s", booth->name, strerror(errno));
+}
+
+static void removed(struct booth *booth)
+{
+    if (booth == NULL) {
+        say("tunnel: the key distributor ended an association that no booth has");
+        return;
+    }
+    say("booth %s: association ended by the key distributor", booth->name);
+    booths_remove(booth);
+}
+
+/* A refusal of a message leaves all records as they were and the next message to be read; but the tunnel has ended
+ * after an oversize one (2), behind which no message can be found again. */
+static int refused(struct branch *branch, const struct answer *answer)
+{
+    say("tunnel: message refused, %u: %s", answer->number, refusal_meaning(answer->number));
+    if (answer->number != SHAWM_OVERSIZE && answer->number != SHAWM_TUNNEL_DOWN)
+        return 0;
+    branch_ended(branch, "no message boundary can be found again");
+    return 0;
+}
+
+/* UnsupportedVersion (RFC 9185, section 5.5): the tunnel has ended in the relay, and every octet was taken. */
+static int version(struct branch *branch, unsigned number)
+{
+    char why[80];
+
+    snprintf(why, sizeof why, "the key distributor speaks version %u at most", number);
+    branch_ended(branch, why);
+    return 0;
+}
+
+/* What one answer asks for, before its octets are dropped. */
+static int act(struct branch *branch, const struct answer *answer)
+{
+    switch (answer->kind) {
+    case ANSWER_STORED:
+        return stored(branch, named(branch));
+    case ANSWER_DELIVERY:
+        deliver(branch, answer);
+        return 0;
+    case ANSWER_REMOVED:
+        removed(named(branch));
+        return 0;
+    case ANSWER_VERSION:
+        return version(branch, answer->number);
+    default:
+        return refused(branch, answer);
+    }
+}
+
+int branch_octets(struct branch *branch)
+{
+    struct tunnel *tunnel = &branch->tunnel;
+    struct answer answer;
+
+    while (tunnel->in_n > 0) {
+        if (relay_octets(&branch->relay, tunnel->in, tunnel->in_n, &answer) != 0)
+            return -1;
+        if (answer.kind == ANSWER_MORE_NEEDED)
+            return 0;
+        if (act(branch, &answer) != 0)
+            return -1;
+        if (tunnel->state != TUNNEL_CONNECTED)   /* it has ended, and its octets are gone */
+            return 0;
+        tunnel_drop(tunnel, answer.taken);
+    }
+    return 0;
+}
