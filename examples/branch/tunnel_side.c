@@ -63,23 +63,20 @@ static void removed(struct booth *booth)
 
 /* A refusal of a message leaves all records as they were and the next message to be read; but the tunnel has ended
  * after an oversize one (2), behind which no message can be found again. */
-static int refused(struct branch *branch, const struct answer *answer)
+static void refused(struct branch *branch, const struct answer *answer)
 {
     say("tunnel: message refused, %u: %s", answer->number, refusal_meaning(answer->number));
-    if (answer->number != SHAWM_OVERSIZE && answer->number != SHAWM_TUNNEL_DOWN)
-        return 0;
-    branch_ended(branch, "no message boundary can be found again");
-    return 0;
+    if (answer->number == SHAWM_OVERSIZE || answer->number == SHAWM_TUNNEL_DOWN)
+        branch_ended(branch, "no message boundary can be found again");
 }
 
 /* UnsupportedVersion (RFC 9185, section 5.5): the tunnel has ended in the relay, and every octet was taken. */
-static int version(struct branch *branch, unsigned number)
+static void version(struct branch *branch, unsigned number)
 {
     char why[80];
 
     snprintf(why, sizeof why, "the key distributor speaks version %u at most", number);
     branch_ended(branch, why);
-    return 0;
 }
 
 /* What one answer asks for, before its octets are dropped. */
@@ -95,9 +92,11 @@ static int act(struct branch *branch, const struct answer *answer)
         removed(named(branch));
         return 0;
     case ANSWER_VERSION:
-        return version(branch, answer->number);
+        version(branch, answer->number);
+        return 0;
     default:
-        return refused(branch, answer);
+        refused(branch, answer);
+        return 0;
     }
 }
 

@@ -11,7 +11,7 @@ import builds
 
 sys.path.insert(0, os.path.join(builds.ROOT, "examples", "parts"))
 import messages
-from children import Child, Missing
+from children import Child
 
 DTLS = b"\x16\xfe\xfd"     # how a DTLS handshake packet begins
 KEYS = [bytes(range(0x51, 0x61)), bytes(range(0x61, 0x71)), bytes(range(0x71, 0x7D)), bytes(range(0xA1, 0xAD))]

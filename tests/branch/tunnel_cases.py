@@ -134,6 +134,7 @@ def oversize(bench):
     distributor.send(bytes.fromhex("031001"))
     branch.say("tunnel: message refused, 2: ")
     branch.say("tunnel: down: ")
+    assert "message refused, 1: " not in branch.child.output().decode()   # the first answer was understood
     assert distributor.message() is None
     again(branch, distributor, booth)
 

@@ -2,7 +2,6 @@
 use Prim.Native.Nat.{ℕ, _-_, _≤_, _<_}
 use mathlib.Core.Path.{_≡_, refl, sym, ap, ap₂, subst, _∙_}
 use mathlib.Core.List.{List}
-use native.Mathlib.Omega.{arith}
 use borrow.Author.Tests.{lt-ltb, le-ltb, eq-eqb, ne-eqb}
 use lib.Dec.{ltb, eqb}
 use lib.ListN.{length, take, drop}
@@ -14,7 +13,7 @@ use Rattle.distributor.specs.Call as Call
 use Rattle.distributor.specs.Call.{Call}
 use Rattle.distributor.specs.Table.{answer, step}
 use Rattle.service.specs.Limits.{endpointLength, room, frameLimit}
-use Rattle.service.specs.Request.{Request, call, noCall, tooLong, misshapen, kindOf, endpointIn, behindEndpoint, requestBy, requestOf}
+use Rattle.service.specs.Request.{Request, call, tooLong, misshapen, kindOf, endpointIn, behindEndpoint, requestBy, requestOf}
 use Rattle.service.specs.Reply.{Replies, Serves, reply, blockAfter, frameOf, answerOctets, lentTo}
 use Rattle.service.specs.declared.kind.Kind.{Kind}
 use Rattle.service.specs.declared.kind.Kind.the-variants.{Open, BoothPacket, End, Look}

@@ -1,7 +1,7 @@
 -- A call that writes, lent all of the output behind the head; then the head.
 use Prim.Native.Nat.{ℕ, suc, _+_, _-_, _≤_}
-use mathlib.Core.Path.{_≡_, refl, sym, ap, ap₂, subst, _∙_}
-use mathlib.Core.List.{List, [], _∷_, _++_, append-nil, append-assoc}
+use mathlib.Core.Path.{_≡_, sym, ap, ap₂, _∙_}
+use mathlib.Core.List.{List, [], _∷_, _++_, append-nil}
 use native.Mathlib.Omega.{arith}
 use lib.ListN.{length, take, drop, length-append, length-take, length-drop, take-append-drop, drop-of-length-le}
 use lib.Seq.{drop-at, drop-drop}
@@ -9,10 +9,10 @@ use Rattle.octets.specs.Number.{octets16}
 use Rattle.octets.specs.Write.{over}
 use Rattle.octets.proofs.PartLaws.{tail}
 use Rattle.distributor.specs.Verdict.{Verdict, allowed, refusal}
-use Rattle.distributor.specs.Answer.{Answer, wrote, answered, refused}
-use Rattle.distributor.specs.Outcomes.{Sends, Sending, sent, notSent}
+use Rattle.distributor.specs.Answer.{wrote, answered, refused}
+use Rattle.distributor.specs.Outcomes.{Sends, sent, notSent}
 use Rattle.distributor.specs.declared.sending.Sent.{Sent}
-use Rattle.service.specs.Limits.{headLength, answerLimit, room}
+use Rattle.service.specs.Limits.{headLength, answerLimit}
 use Rattle.service.specs.Reply.{Replies, frameOf, answerOctets}
 use Rattle.service.specs.Sending.{behindHead, front}
 use Rattle.service.proofs.PieceLaws.{from-front}

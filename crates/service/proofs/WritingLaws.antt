@@ -1,9 +1,9 @@
 -- Start, Booth packet and Close: their answers are a refusal or a message, by one verdict.
 use Prim.Native.Nat.{ℕ, _+_, _≤_}
-use mathlib.Core.Path.{_≡_, refl, ap, subst, _∙_}
+use mathlib.Core.Path.{_≡_, ap, subst, _∙_}
 use mathlib.Core.List.{List, []}
 use native.Mathlib.Omega.{arith}
-use lib.ListN.{length, drop, length-drop}
+use lib.ListN.{length, length-drop}
 use Rattle.octets.specs.Write.{over}
 use Rattle.octets.proofs.PartLaws.{tail}
 use Rattle.message.specs.Message.{encode, endpointDisconnect}

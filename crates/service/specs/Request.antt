@@ -1,6 +1,6 @@
 -- What a request frame stands for: docs/RELAY.md, "Requests". A frame here is its octets behind the two of length.
 use Prim.Native.Nat.{ℕ}
-use mathlib.Core.Bool.{cond, not}
+use mathlib.Core.Bool.{cond}
 use mathlib.Core.List.{List}
 use lib.Dec.{ltb, eqb}
 use lib.ListN.{length, drop}

@@ -1,11 +1,9 @@
 -- What is left to write of the answer to a call that writes: its message, where it wrote one, stands behind the head already.
 use Prim.Native.Nat.{ℕ, _+_}
 use mathlib.Core.List.{List, [], _∷_, _++_}
-use lib.ListN.{length}
 use Rattle.octets.specs.Number.{octets16}
 use Rattle.distributor.specs.Answer.{refused}
 use Rattle.distributor.specs.declared.sending.Sent.{Sent}
-use Rattle.service.specs.Limits.{headLength}
 use Rattle.service.specs.Reply.{frameOf, answerOctets}
 
 -- the octets behind the head

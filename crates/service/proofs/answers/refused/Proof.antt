@@ -3,31 +3,7 @@ use Rattle.service.proofs.FrameLaws.{in-one}
 use borrow.Author.Needs.{needs}
 use Rattle.service.proofs.answers.refused.Statement.{statement}
 use Rattle.service.proofs.answers.refused.Tie as tie
-use Rattle.service.proofs.answers.refused.Reads as reads
-use Rattle.service.proofs.answers.refused.Lts as lts
-use Rattle.octets.proofs.put_octets.Reads as put-octets-reads
 
--- src/answers.rt:29:16
-cast-high : tie.Need-cast-high
-cast-high c = search needs
-
--- src/answers.rt:30:15
-cast-low : tie.Need-cast-low
-cast-low c = search needs
-
--- src/answers.rt:31:32
-slice-aggregate-put-octets : tie.Need-slice-aggregate-put-octets
-slice-aggregate-put-octets c = search needs
-
--- src/answers.rt:31:5
-put-octets-requires : tie.Need-put-octets-requires
-put-octets-requires c κs = search needs
-
--- src/answers.rt:25:1
-same-length : tie.Need-same-length
-same-length c = search needs
-
--- src/answers.rt:25:1
 returns : tie.Need-returns
 returns c = in-one _ _ (omega arith) (c .before .before .put-octets .ensures)
 
@@ -35,9 +11,9 @@ pub refused-spec : {M : Type 1} → statement M
 refused-spec =
     tie.close
     (tie.spec
-    cast-high
-    cast-low
-    slice-aggregate-put-octets
-    put-octets-requires
-    same-length
+    (λ c. search needs)
+    (λ c. search needs)
+    (λ c. search needs)
+    (λ c κs. search needs)
+    (λ c. search needs)
     returns)
