@@ -11,8 +11,8 @@ use Rattle.octets.specs.Part.{part}
 use Rattle.octets.specs.Write.{put, over}
 use Rattle.octets.proofs.PartLaws.{part-tail, part-front}
 use Rattle.octets.proofs.WriteLaws.{over-over, over-length}
-use Rattle.distributor.specs.Layout.{padded, field}
-use Rattle.distributor.proofs.FieldLaws.{padded-length, field-length}
+use Rattle.rules.specs.Layout.{padded, field}
+use Rattle.rules.proofs.FieldLaws.{padded-length, field-length}
 
 zeros-front : (n m : ℕ) → n ≤ m → take {A = ℕ} n (replicate m 0) ≡ replicate n 0
 zeros-front zero m h = refl

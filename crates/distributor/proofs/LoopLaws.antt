@@ -7,7 +7,7 @@ use native.Mathlib.Omega.{arith}
 use native.Mathlib.Numerals.{add-one}
 use lib.ListN.{length, getD, drop, drop-of-length-le}
 use lib.Seq.{drop-cons}
-use Rattle.distributor.specs.Search.{first}
+use Rattle.rules.specs.Search.{first}
 
 module _ {A : Type 0} (p : A → Bool) (l : List A) (d : A) (i : ℕ) (e : first p l ≡ i + first p (drop i l)) where
   -- what is left after an element that fails the test

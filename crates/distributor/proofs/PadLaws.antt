@@ -9,8 +9,8 @@ use lib.ListN.{drop, drop-of-length-le, length, length-replicate, replicate, set
 use lib.Seq.{drop-drop, getD-take, paste, paste-suc, take-all}
 use Rattle.octets.specs.Number.{octetAt}
 use Rattle.octets.specs.Write.{over}
-use Rattle.distributor.specs.Layout.{padded}
-use Rattle.distributor.proofs.FieldLaws.{padded-length}
+use Rattle.rules.specs.Layout.{padded}
+use Rattle.rules.proofs.FieldLaws.{padded-length}
 
 zeros : (n i : ℕ) → octetAt (replicate n 0) i ≡ 0
 zeros zero i = refl

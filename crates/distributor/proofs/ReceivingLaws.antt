@@ -14,16 +14,16 @@ use Rattle.message.specs.declared.framing.Kind.{Kind}
 use Rattle.message.specs.declared.bodies.Fields.{Fields}
 use Rattle.message.specs.declared.bodies.Fields.the-variants.{MediaKeys, TunneledDtls, EndpointDisconnect}
 use Rattle.message.specs.declared.bodies.KeyLengths.{KeyLengths}
-use Rattle.distributor.specs.Limits.{places}
-use Rattle.distributor.specs.Keys.{keysIn}
-use Rattle.distributor.specs.Layout.{up, rowOf, endpointOf, keyedRow, withRow, vacantRow}
-use Rattle.distributor.specs.Verdict.{allowed, refusal}
-use Rattle.distributor.specs.Answer.{Answer, refused, keysStored, delivery, removed}
-use Rattle.distributor.specs.Refusals.{received, receiving}
+use Rattle.rules.specs.Limits.{places}
+use Rattle.rules.specs.Keys.{keysIn}
+use Rattle.rules.specs.Layout.{up, rowOf, endpointOf, keyedRow, withRow, vacantRow}
+use Rattle.rules.specs.Verdict.{allowed, refusal}
+use Rattle.rules.specs.Answer.{Answer, refused, keysStored, delivery, removed}
+use Rattle.rules.specs.Refusals.{received, receiving}
 use Rattle.distributor.specs.Outcomes.{profilesIn, receivedOf}
 use Rattle.distributor.specs.declared.receiving.Received.{Received}
-use Rattle.distributor.specs.Table.{placeOfIdentifier, knows, keysVerdict, fieldsAnswer, fieldsNext, readAnswer, readNext, octetsAnswer, octetsNext}
-use Rattle.distributor.proofs.VerdictLaws.{keys-avoid}
+use Rattle.rules.specs.Table.{placeOfIdentifier, knows, keysVerdict, fieldsAnswer, fieldsNext, readAnswer, readNext, octetsAnswer, octetsNext}
+use Rattle.rules.proofs.VerdictLaws.{keys-avoid}
 
 -- ---- refusal 4 is the only one that is not the reading's
 

@@ -10,14 +10,14 @@ use Rattle.octets.specs.Number.{octetAt}
 use Rattle.octets.specs.Part.{part}
 use Rattle.octets.proofs.PartLaws.{part-length}
 use Rattle.message.specs.Limits.{width, mkiLimit, saltLimit}
-use Rattle.distributor.specs.Limits.{keyLimit}
-use Rattle.distributor.specs.Layout.{rowLength, stateAt, identifierAt, mkiAt, clientKeyAt, serverKeyAt, clientSaltAt, serverSaltAt, identifierOf, endpointOf, keysOf}
-use Rattle.distributor.specs.Keys.{Keys}
-use Rattle.distributor.specs.Answer.{Association, opened, keyed}
-use Rattle.distributor.specs.Table.{associationOf}
+use Rattle.rules.specs.Limits.{keyLimit}
+use Rattle.rules.specs.Layout.{rowLength, stateAt, identifierAt, mkiAt, clientKeyAt, serverKeyAt, clientSaltAt, serverSaltAt, identifierOf, endpointOf, keysOf}
+use Rattle.rules.specs.Keys.{Keys}
+use Rattle.rules.specs.Answer.{Association, opened, keyed}
+use Rattle.rules.specs.Table.{associationOf}
 use Rattle.distributor.specs.declared.looking.Record.{Record}
 use Rattle.distributor.specs.Record.{stretch, recordKeys, keysRead, recordOf, associationIn}
-use Rattle.distributor.proofs.FieldLaws.{padded-whole}
+use Rattle.rules.proofs.FieldLaws.{padded-whole}
 
 -- both cases of a choice
 by-both : (b : Bool) (x y : Record) (p q : Association) → associationIn x ≡ p → associationIn y ≡ q → associationIn (cond b x y) ≡ cond b p q

@@ -8,7 +8,7 @@ use lib.Seq.{drop-drop}
 use Rattle.octets.specs.Number.{octets16}
 use Rattle.octets.specs.Part.{part}
 use Rattle.octets.proofs.WriteLaws.{Wrote}
-use Rattle.distributor.specs.Layout.{octetsOf16, octetsOf32}
+use Rattle.rules.specs.Layout.{octetsOf16, octetsOf32}
 
 -- the same octets, with the place said otherwise
 pub wrote-at : {l p x : List ℕ} {at : ℕ} → Wrote l p x at → (to : ℕ) → to ≡ length p → Wrote l p x to

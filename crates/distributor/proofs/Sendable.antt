@@ -17,20 +17,21 @@ use Rattle.message.specs.Message.{Message, tunneledDtls, endpointDisconnect, en
 use Rattle.message.specs.Profiles.{entries, sound, goodList}
 use Rattle.message.specs.Write as Write
 use Rattle.message.proofs.VerdictLaws.{Fits, encode-length, output-written}
-use Rattle.distributor.specs.Limits.{places, listLimit, packetLimit}
-use Rattle.distributor.specs.Layout.{up, blockLength, rowOf, identifierOf, identifierAt, padded, vacantRow, withRow, upBlock}
-use Rattle.distributor.specs.Verdict.{Verdict, allowed, refusal, after}
-use Rattle.distributor.specs.Answer.{Answer, wrote, answered}
+use Rattle.rules.specs.Limits.{places, listLimit, packetLimit}
+use Rattle.rules.specs.Layout.{up, blockLength, rowOf, identifierOf, identifierAt, padded, vacantRow, withRow, upBlock}
+use Rattle.rules.specs.Verdict.{Verdict, allowed, refusal, after}
+use Rattle.rules.specs.Answer.{Answer, wrote, answered}
 use Rattle.distributor.specs.Outcomes.{checked, Sends, sent}
-use Rattle.distributor.specs.Refusals.{wrongWidth, noRoom, notDtls, tooLong, startMessage}
-use Rattle.distributor.specs.Table.{placeOfIdentifier, placeOfEndpoint, knows, serves, startVerdict, startAnswer, startNext, packetMessage, packetVerdict, packetAnswer, closeVerdict, closeAnswer, closeNext, without}
+use Rattle.rules.specs.Refusals.{wrongWidth, noRoom, notDtls, tooLong, startMessage}
+use Rattle.rules.specs.Table.{placeOfIdentifier, placeOfEndpoint, knows, serves, startVerdict, startAnswer, startNext, packetMessage, packetVerdict, packetAnswer, closeVerdict, closeAnswer, closeNext, without}
 use Rattle.distributor.specs.declared.check.Check.{Check}
 use Rattle.distributor.specs.declared.sending.Sent.{Sent}
-use Rattle.distributor.proofs.RowsLaws.{row-length}
-use Rattle.distributor.proofs.ListRoom.{good-list-room}
-use Rattle.distributor.proofs.FieldLaws.{padded-whole}
-use Rattle.distributor.proofs.VerdictLaws.{passed, told-allowed, told-refused}
-use Rattle.distributor.proofs.ViewVerdicts.{start-passed, close-passed, packet-passed}
+use Rattle.rules.proofs.RowsLaws.{row-length}
+use Rattle.rules.proofs.ListRoom.{good-list-room}
+use Rattle.rules.proofs.FieldLaws.{padded-whole}
+use Rattle.distributor.proofs.CheckLaws.{told-allowed, told-refused}
+use Rattle.rules.proofs.VerdictLaws.{passed}
+use Rattle.rules.proofs.ViewVerdicts.{start-passed, close-passed, packet-passed}
 
 -- ---- what hangs on a verdict
 

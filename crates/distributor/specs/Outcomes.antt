@@ -5,10 +5,10 @@ use mathlib.Core.Bool.{cond}
 use mathlib.Core.List.{List, _++_}
 use lib.ListN.{length, drop}
 use lib.Dec.{eqb}
-use Rattle.distributor.specs.Verdict.{Verdict, allowed, refusal}
-use Rattle.distributor.specs.Refusals.{ofProfiles}
-use Rattle.distributor.specs.Answer as Answer
-use Rattle.distributor.specs.Answer.{Answer, refused, moreNeeded, wrote, placed, ended, found, keysStored, delivery, removed, version}
+use Rattle.rules.specs.Verdict.{Verdict, allowed, refusal}
+use Rattle.rules.specs.Refusals.{ofProfiles}
+use Rattle.rules.specs.Answer as Answer
+use Rattle.rules.specs.Answer.{Answer, refused, moreNeeded, wrote, placed, ended, found, keysStored, delivery, removed, version}
 use Rattle.distributor.specs.declared.check.Check.{Check}
 use Rattle.distributor.specs.declared.ending.Ended.{Ended}
 use Rattle.distributor.specs.declared.opening.Opened.{Opened}

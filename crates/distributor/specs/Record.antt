@@ -7,12 +7,12 @@ use lib.ListN.{take, replicate}
 use Rattle.octets.specs.Number.{octetAt, number16At}
 use Rattle.octets.specs.Part.{part}
 use Rattle.message.specs.Limits.{width, mkiLimit, saltLimit}
-use Rattle.distributor.specs.Limits.{keyLimit}
-use Rattle.distributor.specs.Keys.{Keys}
-use Rattle.distributor.specs.Layout.{stateAt, identifierAt, profileAt, mkiAt, clientKeyAt, serverKeyAt, clientSaltAt, serverSaltAt, endpointOf, padded, rowOf}
-use Rattle.distributor.specs.Verdict.{after}
-use Rattle.distributor.specs.Answer.{Answer, Association, opened, keyed, refused, found}
-use Rattle.distributor.specs.Table.{lookVerdict, placeOfEndpoint}
+use Rattle.rules.specs.Limits.{keyLimit}
+use Rattle.rules.specs.Keys.{Keys}
+use Rattle.rules.specs.Layout.{stateAt, identifierAt, profileAt, mkiAt, clientKeyAt, serverKeyAt, clientSaltAt, serverSaltAt, endpointOf, padded, rowOf}
+use Rattle.rules.specs.Verdict.{after}
+use Rattle.rules.specs.Answer.{Answer, Association, opened, keyed, refused, found}
+use Rattle.rules.specs.Table.{lookVerdict, placeOfEndpoint}
 use Rattle.distributor.specs.declared.looking.RecordKeys.{RecordKeys}
 use Rattle.distributor.specs.declared.looking.Record.{Record}
 use Rattle.distributor.specs.declared.looking.Found.{Found}

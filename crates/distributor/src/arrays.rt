@@ -2,7 +2,7 @@
 ghost use mathlib.Core.Path.{_≡_};
 ghost use Prim.Native.Nat.{_+_};
 ghost use Rattle.octets.specs.Part.{part};
-ghost use Rattle.distributor.specs.Layout.{padded};
+ghost use Rattle.rules.specs.Layout.{padded};
 
 pub fn array16(s: &[u8], at: usize) -> [u8; 16]
     ensures { λ r. ⌜ r ≡ padded 16 (part (now (s .entry)) at (at + 16)) ⌝ }

@@ -5,8 +5,8 @@ use message::limits::WIDTH;
 ghost use mathlib.Core.Path.{_≡_};
 ghost use Prim.Native.Nat.{_<_};
 ghost use lib.ListN.{length};
-ghost use Rattle.distributor.specs.Limits as Limits;
-ghost use Rattle.distributor.specs.Layout as Spec;
+ghost use Rattle.rules.specs.Limits as Limits;
+ghost use Rattle.rules.specs.Layout as Spec;
 
 // Live associations at most.
 pub const PLACES: usize = 32;

@@ -5,8 +5,8 @@ use crate::storing::put_down;
 use octets::refusal;
 ghost use mathlib.Core.Path.{_≡_};
 ghost use lib.ListN.{length};
-ghost use Rattle.distributor.specs.Layout.{blockLength};
-ghost use Rattle.distributor.specs.Table as Spec;
+ghost use Rattle.rules.specs.Layout.{blockLength};
+ghost use Rattle.rules.specs.Table as Spec;
 ghost use Rattle.distributor.specs.Outcomes.{endedOf};
 
 pub enum Ended {

@@ -1,7 +1,7 @@
 // The first state.
 use crate::block::BLOCK;
 ghost use mathlib.Core.Path.{_≡_};
-ghost use Rattle.distributor.specs.Layout.{downBlock};
+ghost use Rattle.rules.specs.Layout.{downBlock};
 
 // Tunnel down, table empty: a block of zeros.
 pub fn first_state() -> [u8; BLOCK]

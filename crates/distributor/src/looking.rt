@@ -18,8 +18,8 @@ use crate::search::place_of_endpoint;
 use octets::refusal;
 ghost use mathlib.Core.Path.{_≡_};
 ghost use lib.ListN.{length};
-ghost use Rattle.distributor.specs.Layout.{blockLength};
-ghost use Rattle.distributor.specs.Table as Spec;
+ghost use Rattle.rules.specs.Layout.{blockLength};
+ghost use Rattle.rules.specs.Table as Spec;
 ghost use Rattle.distributor.specs.Record as R;
 
 // Key fields, padded with zeros behind their lengths.

@@ -3,7 +3,7 @@ ghost use mathlib.Core.Path.{_≡_};
 ghost use Prim.Native.Nat.{_+_, _≤_};
 ghost use lib.ListN.{length};
 ghost use Rattle.octets.specs.Write.{over};
-ghost use Rattle.distributor.specs.Layout as Spec;
+ghost use Rattle.rules.specs.Layout as Spec;
 
 // The first n octets of s from a place on, with zeros behind where there are fewer.
 pub(crate) fn put_padded(out: &mut [u8], at: usize, n: usize, s: &[u8])

@@ -23,10 +23,10 @@ use octets::Bounds;
 use octets::refusal;
 ghost use mathlib.Core.Path.{_≡_};
 ghost use lib.ListN.{length};
-ghost use Rattle.distributor.specs.Layout as Layout;
+ghost use Rattle.rules.specs.Layout as Layout;
 ghost use Rattle.message.specs.Frame as Framing;
 ghost use Rattle.message.specs.Read.{reading};
-ghost use Rattle.distributor.specs.Table as Spec;
+ghost use Rattle.rules.specs.Table as Spec;
 ghost use Rattle.distributor.specs.Outcomes as Out;
 
 pub enum Received {

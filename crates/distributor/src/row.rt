@@ -4,7 +4,7 @@ use crate::block::IDENTIFIER;
 use crate::block::STATE;
 use message::limits::WIDTH;
 ghost use mathlib.Core.Path.{_≡_};
-ghost use Rattle.distributor.specs.Layout as Spec;
+ghost use Rattle.rules.specs.Layout as Spec;
 
 pub fn is_live(row: &[u8]) -> bool
     ensures { λ r. ⌜ r ≡ Spec.live (now (row .entry)) ⌝ }

@@ -6,8 +6,8 @@ use crate::row::is_named;
 use crate::row::is_serving;
 ghost use mathlib.Core.Path.{_≡_};
 ghost use lib.ListN.{length};
-ghost use Rattle.distributor.specs.Layout.{blockLength};
-ghost use Rattle.distributor.specs.Table as Spec;
+ghost use Rattle.rules.specs.Layout.{blockLength};
+ghost use Rattle.rules.specs.Table as Spec;
 
 pub(crate) fn place_of_identifier(state: &[u8], identifier: &[u8]) -> usize
     requires { ⌜ length (now state) ≡ blockLength ⌝ }

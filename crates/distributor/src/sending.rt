@@ -16,9 +16,9 @@ use message::limits::WIDTH;
 use octets::refusal;
 ghost use mathlib.Core.Path.{_≡_};
 ghost use lib.ListN.{length};
-ghost use Rattle.distributor.specs.Layout.{blockLength};
-ghost use Rattle.distributor.specs.Refusals.{notDtls};
-ghost use Rattle.distributor.specs.Table as Spec;
+ghost use Rattle.rules.specs.Layout.{blockLength};
+ghost use Rattle.rules.specs.Refusals.{notDtls};
+ghost use Rattle.rules.specs.Table as Spec;
 ghost use Rattle.distributor.specs.Outcomes.{checked, Sends};
 
 pub enum Sent {

@@ -9,8 +9,8 @@ use message::limits::HEADER;
 use octets::refusal;
 ghost use mathlib.Core.Path.{_≡_};
 ghost use lib.ListN.{length};
-ghost use Rattle.distributor.specs.Layout.{blockLength};
-ghost use Rattle.distributor.specs.Table as Spec;
+ghost use Rattle.rules.specs.Layout.{blockLength};
+ghost use Rattle.rules.specs.Table as Spec;
 ghost use Rattle.distributor.specs.Outcomes.{checked, Sends};
 
 fn check_start(state: &[u8], list: &[u8], room: usize) -> Check

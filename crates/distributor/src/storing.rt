@@ -13,9 +13,9 @@ use message::KeyLengths;
 ghost use mathlib.Core.Path.{_≡_};
 ghost use Prim.Native.Nat.{_<_, _≤_};
 ghost use lib.ListN.{length};
-ghost use Rattle.distributor.specs.Limits.{places, listLimit};
-ghost use Rattle.distributor.specs.Keys.{keysIn};
-ghost use Rattle.distributor.specs.Layout as Spec;
+ghost use Rattle.rules.specs.Limits.{places, listLimit};
+ghost use Rattle.rules.specs.Keys.{keysIn};
+ghost use Rattle.rules.specs.Layout as Spec;
 
 pub(crate) fn put_open(state: &mut [u8], place: usize, identifier: &[u8], endpoint: u32)
     requires { ⌜ (length (now state) ≡ Spec.blockLength) × (place < places) ⌝ }

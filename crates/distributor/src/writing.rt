@@ -20,8 +20,8 @@ ghost use Prim.Native.Nat.{_+_, _≤_};
 ghost use lib.ListN.{length};
 ghost use Rattle.octets.specs.Bounds.{partIn};
 ghost use Rattle.octets.specs.Write.{over};
-ghost use Rattle.distributor.specs.Keys.{keysIn};
-ghost use Rattle.distributor.specs.Layout as Spec;
+ghost use Rattle.rules.specs.Keys.{keysIn};
+ghost use Rattle.rules.specs.Layout as Spec;
 
 // The row becomes that of an association that was just opened.
 pub(crate) fn open_row(row: &mut [u8], identifier: &[u8], endpoint: u32)

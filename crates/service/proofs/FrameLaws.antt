@@ -5,7 +5,7 @@ use mathlib.Core.List.{List, _++_}
 use native.Mathlib.Omega.{arith}
 use lib.ListN.{length}
 use Rattle.octets.specs.Number.{octets16}
-use Rattle.distributor.specs.Answer.{Answer}
+use Rattle.rules.specs.Answer.{Answer}
 use Rattle.service.specs.Reply.{Replies, frameOf, answerOctets}
 use Rattle.service.proofs.PieceLaws.{Put, whole, two, from-front}
 

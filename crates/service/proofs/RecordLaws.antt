@@ -11,11 +11,11 @@ use Rattle.octets.specs.Part.{part}
 use Rattle.octets.specs.Write.{over}
 use Rattle.octets.proofs.PartLaws.{part-front}
 use Rattle.message.specs.Limits.{width, mkiLimit}
-use Rattle.distributor.specs.Answer.{opened, keyed, found}
-use Rattle.distributor.specs.Keys.{Keys}
-use Rattle.distributor.specs.Layout.{padded, field, octetsOf32}
-use Rattle.distributor.specs.Limits.{keyLimit}
-use Rattle.distributor.proofs.FieldLaws.{field-length}
+use Rattle.rules.specs.Answer.{opened, keyed, found}
+use Rattle.rules.specs.Keys.{Keys}
+use Rattle.rules.specs.Layout.{padded, field, octetsOf32}
+use Rattle.rules.specs.Limits.{keyLimit}
+use Rattle.rules.proofs.FieldLaws.{field-length}
 use Rattle.service.specs.Limits.{keysLength, recordLength}
 use Rattle.distributor.specs.Record.{keysRead, associationIn}
 use Rattle.distributor.specs.declared.looking.Record.{Record}

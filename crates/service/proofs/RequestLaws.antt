@@ -8,10 +8,10 @@ use lib.ListN.{length, take, drop}
 use Rattle.octets.specs.Number.{octetAt}
 use Rattle.octets.proofs.PartLaws.{tail}
 use Rattle.octets.proofs.Tests.{by-choice}
-use Rattle.distributor.specs.Answer.{Answer}
-use Rattle.distributor.specs.Call as Call
-use Rattle.distributor.specs.Call.{Call}
-use Rattle.distributor.specs.Table.{answer, step}
+use Rattle.rules.specs.Answer.{Answer}
+use Rattle.rules.specs.Call as Call
+use Rattle.rules.specs.Call.{Call}
+use Rattle.rules.specs.Table.{answer, step}
 use Rattle.service.specs.Limits.{endpointLength, room, frameLimit}
 use Rattle.service.specs.Request.{Request, call, tooLong, misshapen, kindOf, endpointIn, behindEndpoint, requestBy, requestOf}
 use Rattle.service.specs.Reply.{Replies, Serves, reply, blockAfter, frameOf, answerOctets, lentTo}

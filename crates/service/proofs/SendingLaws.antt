@@ -8,8 +8,8 @@ use lib.Seq.{drop-at, drop-drop}
 use Rattle.octets.specs.Number.{octets16}
 use Rattle.octets.specs.Write.{over}
 use Rattle.octets.proofs.PartLaws.{tail}
-use Rattle.distributor.specs.Verdict.{Verdict, allowed, refusal}
-use Rattle.distributor.specs.Answer.{wrote, answered, refused}
+use Rattle.rules.specs.Verdict.{Verdict, allowed, refusal}
+use Rattle.rules.specs.Answer.{wrote, answered, refused}
 use Rattle.distributor.specs.Outcomes.{Sends, sent, notSent}
 use Rattle.distributor.specs.declared.sending.Sent.{Sent}
 use Rattle.service.specs.Limits.{headLength, answerLimit}

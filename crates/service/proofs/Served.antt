@@ -2,12 +2,12 @@
 use Prim.Native.Nat.{ℕ}
 use mathlib.Core.Path.{_≡_, refl, sym, ap, subst}
 use mathlib.Core.List.{List, [], _∷_, map}
-use Rattle.distributor.specs.Cards as Cards
-use Rattle.distributor.specs.Claim.{AsCards}
-use Rattle.distributor.specs.Layout.{downBlock}
-use Rattle.distributor.specs.Table.{run, answers}
-use Rattle.distributor.specs.View.{view}
-use Rattle.distributor.proofs.Claimed.{claim}
+use Rattle.rules.specs.Cards as Cards
+use Rattle.rules.specs.Claim.{AsCards}
+use Rattle.rules.specs.Layout.{downBlock}
+use Rattle.rules.specs.Table.{run, answers}
+use Rattle.rules.specs.View.{view}
+use Rattle.rules.proofs.Claimed.{claim}
 use Rattle.service.specs.Request.{Request, call, noCall, requestOf}
 use Rattle.service.specs.Reply.{reply, blockAfter}
 use Rattle.service.specs.Served.{replies, blockBehind, callsIn, callsOf, repliesOf, Served}

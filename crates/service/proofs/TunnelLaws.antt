@@ -16,12 +16,12 @@ use Rattle.message.specs.Parts.{identifierPlace, dtlsPlace}
 use Rattle.message.specs.Read as Read
 use Rattle.message.specs.declared.bodies.Fields.{Fields}
 use Rattle.message.specs.declared.bodies.Fields.the-variants.{SupportedProfiles, UnsupportedVersion, MediaKeys, TunneledDtls, EndpointDisconnect}
-use Rattle.distributor.specs.Answer.{Answer, refused, moreNeeded, wrote, placed, ended, found, keysStored, delivery, removed, version, answered}
-use Rattle.distributor.specs.Layout.{up, endpointOf, rowOf, octetsOf32}
+use Rattle.rules.specs.Answer.{Answer, refused, moreNeeded, wrote, placed, ended, found, keysStored, delivery, removed, version, answered}
+use Rattle.rules.specs.Layout.{up, endpointOf, rowOf, octetsOf32}
 use Rattle.distributor.specs.Outcomes.{receivedOf}
-use Rattle.distributor.specs.Refusals.{receiving}
-use Rattle.distributor.specs.Table.{placeOfIdentifier, knows, keysVerdict, fieldsAnswer, readAnswer, octetsAnswer}
-use Rattle.distributor.specs.Verdict.{Verdict, allowed, refusal}
+use Rattle.rules.specs.Refusals.{receiving}
+use Rattle.rules.specs.Table.{placeOfIdentifier, knows, keysVerdict, fieldsAnswer, readAnswer, octetsAnswer}
+use Rattle.rules.specs.Verdict.{Verdict, allowed, refusal}
 use Rattle.distributor.specs.declared.receiving.Received.{Received}
 use Rattle.service.specs.Limits.{room, answerLimit}
 use Rattle.service.specs.Reply.{Replies, frameOf}

@@ -7,10 +7,10 @@ use lib.ListN.{length, length-drop}
 use Rattle.octets.specs.Write.{over}
 use Rattle.octets.proofs.PartLaws.{tail}
 use Rattle.message.specs.Message.{encode, endpointDisconnect}
-use Rattle.distributor.specs.Call as Call
-use Rattle.distributor.specs.Refusals.{startMessage}
-use Rattle.distributor.specs.Table.{answer, step, startVerdict, startAnswer, startNext, packetMessage, packetVerdict, packetAnswer, closeVerdict, closeAnswer, closeNext}
-use Rattle.distributor.specs.Answer.{Answer}
+use Rattle.rules.specs.Call as Call
+use Rattle.rules.specs.Refusals.{startMessage}
+use Rattle.rules.specs.Table.{answer, step, startVerdict, startAnswer, startNext, packetMessage, packetVerdict, packetAnswer, closeVerdict, closeAnswer, closeNext}
+use Rattle.rules.specs.Answer.{Answer}
 use Rattle.distributor.specs.Outcomes.{Sends}
 use Rattle.distributor.specs.declared.sending.Sent.{Sent}
 use Rattle.service.specs.Limits.{headLength, answerLimit, room}

@@ -6,13 +6,13 @@ use lib.ListN.{length, drop, replicate}
 use Rattle.octets.specs.Bounds.{partIn}
 use Rattle.octets.specs.Number.{octets16}
 use Rattle.message.specs.Limits.{mkiLimit, saltLimit}
-use Rattle.distributor.specs.Limits.{keyLimit}
-use Rattle.distributor.specs.Layout.{field, octetsOf32}
-use Rattle.distributor.specs.Call as Call
-use Rattle.distributor.specs.Call.{Call}
-use Rattle.distributor.specs.Answer.{Association, opened, keyed, Answer, refused, moreNeeded, wrote, placed, ended, found, keysStored, delivery, removed, version}
-use Rattle.distributor.specs.Keys.{Keys}
-use Rattle.distributor.specs.Table.{answer, step}
+use Rattle.rules.specs.Limits.{keyLimit}
+use Rattle.rules.specs.Layout.{field, octetsOf32}
+use Rattle.rules.specs.Call as Call
+use Rattle.rules.specs.Call.{Call}
+use Rattle.rules.specs.Answer.{Association, opened, keyed, Answer, refused, moreNeeded, wrote, placed, ended, found, keysStored, delivery, removed, version}
+use Rattle.rules.specs.Keys.{Keys}
+use Rattle.rules.specs.Table.{answer, step}
 use Rattle.service.specs.Limits.{keysLength}
 use Rattle.service.specs.Request.{Request, call, noCall}
 

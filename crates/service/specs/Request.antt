@@ -5,8 +5,8 @@ use mathlib.Core.List.{List}
 use lib.Dec.{ltb, eqb}
 use lib.ListN.{length, drop}
 use Rattle.octets.specs.Number.{octetAt, number32At}
-use Rattle.distributor.specs.Call as Call
-use Rattle.distributor.specs.Call.{Call}
+use Rattle.rules.specs.Call as Call
+use Rattle.rules.specs.Call.{Call}
 use Rattle.service.specs.Limits.{endpointLength, room, frameLimit}
 use Rattle.service.specs.declared.kind.Kind.{Kind}
 use Rattle.service.specs.declared.kind.Kind.the-variants.{Start, Open, BoothPacket, TunnelOctets, Close, End, Look, Unknown}

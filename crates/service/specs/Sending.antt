@@ -2,7 +2,7 @@
 use Prim.Native.Nat.{ℕ, _+_}
 use mathlib.Core.List.{List, [], _∷_, _++_}
 use Rattle.octets.specs.Number.{octets16}
-use Rattle.distributor.specs.Answer.{refused}
+use Rattle.rules.specs.Answer.{refused}
 use Rattle.distributor.specs.declared.sending.Sent.{Sent}
 use Rattle.service.specs.Reply.{frameOf, answerOctets}
 

@@ -2,13 +2,13 @@
 use Prim.Native.Nat.{ℕ}
 use mathlib.Core.Path.{_≡_}
 use mathlib.Core.List.{List, [], _∷_, map}
-use Rattle.distributor.specs.Answer.{Answer}
-use Rattle.distributor.specs.Call.{Call}
-use Rattle.distributor.specs.Cards as Cards
-use Rattle.distributor.specs.Claim.{AsCards}
-use Rattle.distributor.specs.Layout.{downBlock}
-use Rattle.distributor.specs.Table.{run, answers}
-use Rattle.distributor.specs.View.{view}
+use Rattle.rules.specs.Answer.{Answer}
+use Rattle.rules.specs.Call.{Call}
+use Rattle.rules.specs.Cards as Cards
+use Rattle.rules.specs.Claim.{AsCards}
+use Rattle.rules.specs.Layout.{downBlock}
+use Rattle.rules.specs.Table.{run, answers}
+use Rattle.rules.specs.View.{view}
 use Rattle.service.specs.Request.{Request, call, noCall, requestOf}
 use Rattle.service.specs.Reply.{frameOf, answerOctets, lentTo, ownReply, reply, blockAfter}
 

@@ -14,10 +14,10 @@ use Rattle.message.specs.Profiles.{isProfile, entries, goodList}
 use Rattle.message.specs.Frame as Frame
 use Rattle.message.specs.Walk.{past, fixed, complete}
 use Rattle.message.specs.Body.{content, endpointDisconnect}
-use Rattle.distributor.specs.Refusals.{startMessage, noRoom, receiving}
-use Rattle.distributor.specs.Answer.{wrote}
-use Rattle.distributor.specs.Layout.{up, downBlock, upBlock}
-use Rattle.distributor.specs.Table.{startVerdict, startAnswer, startNext, fieldsAnswer, fieldsNext, readAnswer, readNext, octetsAnswer, octetsNext}
+use Rattle.rules.specs.Refusals.{startMessage, noRoom, receiving}
+use Rattle.rules.specs.Answer.{wrote}
+use Rattle.rules.specs.Layout.{up, downBlock, upBlock}
+use Rattle.rules.specs.Table.{startVerdict, startAnswer, startNext, fieldsAnswer, fieldsNext, readAnswer, readNext, octetsAnswer, octetsNext}
 use Rattle.vectors.specs.Worked.{Worked, both}
 
 -- ---- of either block only the first octet is looked at

@@ -7,9 +7,9 @@ use Rattle.demux.specs.Sorting.{sorting, kind}
 use Rattle.demux.specs.declared.sorting.Kind.the-variants.{Stun, Dtls, Rtp, Other}
 use Rattle.ekt.specs.Claims.{Splits}
 use Rattle.ekt.specs.Splitting as Splitting
-use Rattle.distributor.specs.Answer.{Answer, refused, moreNeeded, wrote, version}
-use Rattle.distributor.specs.Layout.{downBlock, upBlock}
-use Rattle.distributor.specs.Table.{startAnswer, startNext, octetsAnswer, octetsNext}
+use Rattle.rules.specs.Answer.{Answer, refused, moreNeeded, wrote, version}
+use Rattle.rules.specs.Layout.{downBlock, upBlock}
+use Rattle.rules.specs.Table.{startAnswer, startNext, octetsAnswer, octetsNext}
 
 -- Start in the first state, with an output just long enough: what it writes, and the tunnel up with the list
 pub record Starts (list written : List ℕ) : Type 0 where

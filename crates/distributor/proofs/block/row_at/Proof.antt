@@ -1,8 +1,8 @@
 use native.Mathlib.Omega.{arith}
 use mathlib.Core.Path.{sym, _∙_}
 use denote.Ref.{now}
-use Rattle.distributor.specs.Layout as L
-use Rattle.distributor.proofs.RowsLaws.{row-part}
+use Rattle.rules.specs.Layout as L
+use Rattle.rules.proofs.RowsLaws.{row-part}
 use borrow.Author.Needs.{needs}
 use borrow.Author.Needs.{needs}
 use Rattle.distributor.proofs.block.row_at.Statement.{statement}

@@ -2,7 +2,7 @@ use mathlib.Core.Path.{sym, ap, _∙_}
 use denote.Ref.{now}
 use borrow.Author.Tests.{lt-ltb, le-ltb, eq-eqb, ne-eqb}
 use mathlib.Core.Bool.{not}
-use Rattle.distributor.specs.Table as Spec
+use Rattle.rules.specs.Table as Spec
 use Rattle.distributor.proofs.Sendable.{close-length}
 use borrow.Author.Needs.{needs}
 use Rattle.distributor.proofs.closing.check_close.Statement.{statement}

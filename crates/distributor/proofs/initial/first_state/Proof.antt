@@ -1,5 +1,5 @@
 use mathlib.Core.Path.{refl}
-use Rattle.distributor.specs.Layout.{downBlock}
+use Rattle.rules.specs.Layout.{downBlock}
 use Rattle.distributor.proofs.initial.first_state.Statement.{statement}
 use Rattle.distributor.proofs.initial.first_state.Tie as tie
 

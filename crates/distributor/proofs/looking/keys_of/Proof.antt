@@ -1,6 +1,6 @@
-use Rattle.distributor.specs.Layout as L
+use Rattle.rules.specs.Layout as L
 use borrow.Author.Needs.{needs}
-use Rattle.distributor.specs.Table as Spec
+use Rattle.rules.specs.Table as Spec
 use Rattle.distributor.specs.Record as R
 use borrow.Author.Needs.{needs}
 use Rattle.distributor.proofs.looking.keys_of.Statement.{statement}

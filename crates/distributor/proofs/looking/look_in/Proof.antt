@@ -2,13 +2,13 @@ use mathlib.Core.Path.{_≡_, sym, ap, _∙_}
 use denote.Ref.{now}
 use borrow.Author.Tests.{lt-ltb, le-ltb, not-true, not-false}
 use mathlib.Core.Bool.{true, false}
-use Rattle.distributor.specs.Layout as L
+use Rattle.rules.specs.Layout as L
 use borrow.Author.Needs.{needs}
-use Rattle.distributor.specs.Table as Spec
+use Rattle.rules.specs.Table as Spec
 use Rattle.distributor.specs.Record as R
 use Rattle.distributor.proofs.RecordReads.{record-read}
-use Rattle.distributor.proofs.RowsLaws.{Legal, row-length}
-use Rattle.distributor.specs.Answer.{found}
+use Rattle.rules.proofs.RowsLaws.{Legal, row-length}
+use Rattle.rules.specs.Answer.{found}
 use borrow.Author.Needs.{needs}
 use Rattle.distributor.proofs.looking.look_in.Statement.{statement}
 use Rattle.distributor.proofs.looking.look_in.Tie as tie

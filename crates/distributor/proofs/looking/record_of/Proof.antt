@@ -1,8 +1,8 @@
 use mathlib.Core.Path.{sym, _∙_}
 use borrow.Author.Tests.{eq-eqb, ne-eqb}
-use Rattle.distributor.specs.Layout as L
+use Rattle.rules.specs.Layout as L
 use borrow.Author.Needs.{needs}
-use Rattle.distributor.specs.Table as Spec
+use Rattle.rules.specs.Table as Spec
 use Rattle.distributor.specs.Record as R
 use borrow.Author.Needs.{needs}
 use Rattle.distributor.proofs.looking.record_of.Statement.{statement}

@@ -1,8 +1,8 @@
 use mathlib.Core.Path.{sym, _∙_}
 use borrow.Author.Tests.{lt-ltb, le-ltb, eq-eqb, ne-eqb, not-true, not-false}
-use Rattle.distributor.specs.Layout as L
+use Rattle.rules.specs.Layout as L
 use borrow.Author.Needs.{needs}
-use Rattle.distributor.specs.Table as Spec
+use Rattle.rules.specs.Table as Spec
 use Rattle.distributor.specs.Outcomes as Out
 use borrow.Author.Needs.{needs}
 use Rattle.distributor.proofs.opening.check_open.Statement.{statement}

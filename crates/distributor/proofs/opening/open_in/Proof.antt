@@ -1,9 +1,9 @@
 use mathlib.Core.Path.{sym, _∙_}
 use denote.Ref.{now}
 use borrow.Author.Tests.{ltb-true}
-use Rattle.distributor.specs.Table as Spec
-use Rattle.distributor.proofs.VerdictLaws.{told-allowed, told-refused}
-use Rattle.distributor.proofs.ViewVerdicts.{open-passed}
+use Rattle.rules.specs.Table as Spec
+use Rattle.distributor.proofs.CheckLaws.{told-allowed, told-refused}
+use Rattle.rules.proofs.ViewVerdicts.{open-passed}
 use borrow.Author.Needs.{needs}
 use Rattle.distributor.proofs.opening.open_in.Statement.{statement}
 use Rattle.distributor.proofs.opening.open_in.Tie as tie

@@ -4,11 +4,11 @@ use denote.Ref.{now}
 use Prim.Native.Nat.{ℕ, _+_}
 use mathlib.Core.List.{List, [], _∷_}
 use lib.ListN.{length}
-use Rattle.distributor.specs.Layout as L
+use Rattle.rules.specs.Layout as L
 use borrow.Author.Needs.{needs}
 use Rattle.octets.proofs.WriteLaws.{over-over, over-length}
 use Rattle.octets.specs.Write.{over}
-use Rattle.distributor.proofs.FieldLaws.{field-length}
+use Rattle.rules.proofs.FieldLaws.{field-length}
 use lib.Seq.{sets-eq}
 use borrow.Author.Needs.{needs}
 use Rattle.distributor.proofs.padding.put_field.Statement.{statement}

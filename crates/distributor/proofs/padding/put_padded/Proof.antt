@@ -3,7 +3,7 @@ use mathlib.Core.Path.{_≡_, refl, _∙_}
 use denote.Ref.{now}
 use Prim.Native.Nat.{_+_, _-_, _≤_}
 use lib.ListN.{length, length-set}
-use Rattle.distributor.specs.Layout as L
+use Rattle.rules.specs.Layout as L
 use Rattle.distributor.proofs.PadLaws.{paste-octet, paste-all}
 use borrow.Author.Needs.{needs}
 use lib.Seq.{paste, paste-zero}

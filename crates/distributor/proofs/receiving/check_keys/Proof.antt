@@ -3,8 +3,8 @@ use Prim.Native.Nat.{ℕ}
 use lib.Dec.{ltb}
 use borrow.Author.Tests.{lt-ltb, le-ltb, not-true, not-false}
 use Rattle.message.specs.Profiles.{inList}
-use Rattle.distributor.specs.Limits.{places}
-use Rattle.distributor.specs.Table as Spec
+use Rattle.rules.specs.Limits.{places}
+use Rattle.rules.specs.Table as Spec
 use Rattle.distributor.specs.declared.check.Check.{Check}
 use borrow.Author.Needs.{needs}
 use Rattle.distributor.proofs.receiving.check_keys.Statement.{statement}

@@ -1,7 +1,7 @@
 use mathlib.Core.Path.{ap, _∙_}
 use denote.Ref.{now}
-use Rattle.distributor.specs.Layout.{endpointOf}
-use Rattle.distributor.specs.Table as Spec
+use Rattle.rules.specs.Layout.{endpointOf}
+use Rattle.rules.specs.Table as Spec
 use Rattle.distributor.proofs.ReceivingLaws.{delivered, not-delivered}
 use borrow.Author.Needs.{needs}
 use Rattle.distributor.proofs.receiving.deliver.Statement.{statement}

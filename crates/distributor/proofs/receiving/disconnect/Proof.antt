@@ -1,6 +1,6 @@
 use mathlib.Core.Path.{ap, _∙_}
 use denote.Ref.{now}
-use Rattle.distributor.specs.Table as Spec
+use Rattle.rules.specs.Table as Spec
 use Rattle.distributor.proofs.ReceivingLaws.{disconnected, not-disconnected}
 use borrow.Author.Needs.{needs}
 use Rattle.distributor.proofs.receiving.disconnect.Statement.{statement}

@@ -1,7 +1,7 @@
 use mathlib.Core.Path.{ap₂, _∙_}
 use lib.ListN.{take}
 use Rattle.octets.proofs.PartLaws.{part-front}
-use Rattle.distributor.specs.Layout.{listOf}
+use Rattle.rules.specs.Layout.{listOf}
 use borrow.Author.Needs.{needs}
 use Rattle.distributor.proofs.receiving.list_of.Statement.{statement}
 use Rattle.distributor.proofs.receiving.list_of.Tie as tie

@@ -2,7 +2,7 @@ use mathlib.Core.Path.{_≡_, sym, ap, _∙_}
 use denote.Ref.{now}
 use Prim.Native.Nat.{ℕ}
 use borrow.Author.Tests.{not-true, not-false}
-use Rattle.distributor.specs.Answer.{refused}
+use Rattle.rules.specs.Answer.{refused}
 use Rattle.distributor.specs.Outcomes.{profilesIn}
 use Rattle.message.specs.Frame.{frame}
 use Rattle.distributor.proofs.ReceivingLaws.{receives-down, receives-profiles, receives-reading}

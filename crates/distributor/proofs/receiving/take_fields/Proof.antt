@@ -1,6 +1,6 @@
 use mathlib.Core.Path.{refl}
 use denote.Ref.{now}
-use Rattle.distributor.specs.Table as Spec
+use Rattle.rules.specs.Table as Spec
 use Rattle.distributor.proofs.ReceivingLaws.{of-fields}
 use borrow.Author.Needs.{needs}
 use Rattle.distributor.proofs.receiving.take_fields.Statement.{statement}

@@ -3,10 +3,10 @@ use denote.Ref.{now}
 use Prim.Native.Nat.{ℕ}
 use mathlib.Core.List.{List}
 use borrow.Author.Tests.{ltb-true}
-use Rattle.distributor.specs.Table as Spec
+use Rattle.rules.specs.Table as Spec
 use Rattle.distributor.specs.Outcomes.{checked}
-use Rattle.distributor.proofs.VerdictLaws.{told-allowed, told-refused}
-use Rattle.distributor.proofs.ViewVerdicts.{keys-passed}
+use Rattle.distributor.proofs.CheckLaws.{told-allowed, told-refused}
+use Rattle.rules.proofs.ViewVerdicts.{keys-passed}
 use Rattle.distributor.proofs.ReceivingLaws.{keyed, not-keyed}
 use borrow.Author.Needs.{needs}
 use Rattle.distributor.proofs.receiving.take_keys.Statement.{statement}

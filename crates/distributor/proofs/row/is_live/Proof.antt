@@ -1,4 +1,4 @@
-use Rattle.distributor.specs.Layout as L
+use Rattle.rules.specs.Layout as L
 use borrow.Author.Needs.{needs}
 use borrow.Author.Needs.{needs}
 use Rattle.distributor.proofs.row.is_live.Statement.{statement}

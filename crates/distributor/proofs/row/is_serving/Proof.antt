@@ -3,8 +3,8 @@ use mathlib.Core.Path.{sym, ap, _∙_}
 use Prim.Native.Nat.{ℕ}
 use lib.Dec.{eqb}
 use borrow.Author.Tests.{eq-eqb, ne-eqb}
-use Rattle.distributor.specs.Layout as L
-use Rattle.distributor.proofs.SearchLaws.{second-holds, second-fails}
+use Rattle.rules.specs.Layout as L
+use Rattle.rules.proofs.SearchLaws.{second-holds, second-fails}
 use borrow.Author.Needs.{needs}
 use Rattle.distributor.proofs.row.is_serving.Statement.{statement}
 use Rattle.distributor.proofs.row.is_serving.Tie as tie

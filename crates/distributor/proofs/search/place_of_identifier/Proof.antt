@@ -4,13 +4,13 @@ use denote.Ref.{now}
 use Prim.Native.Nat.{_+_, _-_, _≤_}
 use mathlib.Core.List.{[]}
 use lib.ListN.{drop}
-use Rattle.distributor.specs.Limits.{places}
-use Rattle.distributor.specs.Layout as L
-use Rattle.distributor.proofs.RowsLaws.{rows-length}
+use Rattle.rules.specs.Limits.{places}
+use Rattle.rules.specs.Layout as L
+use Rattle.rules.proofs.RowsLaws.{rows-length}
 use Rattle.distributor.proofs.LoopLaws.{first-next, first-here, first-none}
 use borrow.Author.Needs.{needs}
-use Rattle.distributor.specs.Table as Spec
-use Rattle.distributor.specs.Search.{first}
+use Rattle.rules.specs.Table as Spec
+use Rattle.rules.specs.Search.{first}
 use Rattle.distributor.proofs.search.place_of_identifier.Statement.{statement}
 use Rattle.distributor.proofs.search.place_of_identifier.Tie as tie
 

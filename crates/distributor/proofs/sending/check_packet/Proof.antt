@@ -4,8 +4,8 @@ use Prim.Native.Nat.{ℕ}
 use borrow.Author.Tests.{lt-ltb, le-ltb}
 use mathlib.Core.Bool.{not}
 use lib.Dec.{ltb}
-use Rattle.distributor.specs.Limits.{places}
-use Rattle.distributor.specs.Table as Spec
+use Rattle.rules.specs.Limits.{places}
+use Rattle.rules.specs.Table as Spec
 use Rattle.distributor.specs.declared.check.Check.{Check}
 use Rattle.distributor.proofs.Sendable.{packet-length}
 use borrow.Author.Needs.{needs}

@@ -2,7 +2,7 @@ use mathlib.Core.Path.{sym, ap, _∙_}
 use mathlib.Core.Bool.{not}
 use Rattle.demux.specs.Sorting as Sorting
 use Rattle.demux.specs.declared.sorting.Kind.{Kind}
-use Rattle.distributor.specs.Refusals.{isDtlsKind, sortsAsDtls, notDtls}
+use Rattle.rules.specs.Refusals.{isDtlsKind, sortsAsDtls, notDtls}
 use borrow.Author.Needs.{needs}
 use Rattle.distributor.proofs.sending.is_not_dtls.Statement.{statement}
 use Rattle.distributor.proofs.sending.is_not_dtls.Tie as tie

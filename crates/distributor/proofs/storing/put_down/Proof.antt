@@ -2,11 +2,11 @@ use mathlib.Core.Path.{sym, ap, _∙_}
 use denote.Ref.{now}
 use Prim.Native.Nat.{ℕ}
 use lib.ListN.{length-replicate}
-use Rattle.distributor.specs.Layout as L
+use Rattle.rules.specs.Layout as L
 use borrow.Author.Needs.{needs}
 use Rattle.octets.specs.Write.{over}
 use Rattle.distributor.proofs.PadLaws.{padded-none, over-all}
-use Rattle.distributor.specs.Layout.{blockLength}
+use Rattle.rules.specs.Layout.{blockLength}
 use borrow.Author.Needs.{needs}
 use Rattle.distributor.proofs.storing.put_down.Statement.{statement}
 use Rattle.distributor.proofs.storing.put_down.Tie as tie

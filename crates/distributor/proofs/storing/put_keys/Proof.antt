@@ -3,16 +3,16 @@ use denote.Ref.{now}
 use Prim.Native.Nat.{ℕ, _+_, _*_, _-_}
 use mathlib.Core.List.{List, _++_}
 use lib.ListN.{drop}
-use Rattle.distributor.specs.Layout as L
+use Rattle.rules.specs.Layout as L
 use borrow.Author.Needs.{needs}
 use Rattle.octets.specs.Part.{part}
-use Rattle.distributor.specs.Keys.{keysIn}
+use Rattle.rules.specs.Keys.{keysIn}
 use Rattle.distributor.proofs.PadLaws.{lent-back}
-use Rattle.distributor.proofs.RowLaws.{keyed-row-length}
-use Rattle.distributor.proofs.RowsLaws.{row-part, row-length}
+use Rattle.rules.proofs.RowLaws.{keyed-row-length}
+use Rattle.rules.proofs.RowsLaws.{row-part, row-length}
 use lib.ListN.{take}
-use Rattle.distributor.specs.Layout.{rowsAt, rowLength}
-use Rattle.distributor.proofs.RowsLaws.{Legal}
+use Rattle.rules.specs.Layout.{rowsAt, rowLength}
+use Rattle.rules.proofs.RowsLaws.{Legal}
 use borrow.Author.Needs.{needs}
 use Rattle.distributor.proofs.storing.put_keys.Statement.{statement}
 use Rattle.distributor.proofs.storing.put_keys.Tie as tie

@@ -3,12 +3,12 @@ use denote.Ref.{now}
 use Prim.Native.Nat.{ℕ, _+_, _*_, _-_}
 use mathlib.Core.List.{List, _++_}
 use lib.ListN.{drop}
-use Rattle.distributor.specs.Layout as L
+use Rattle.rules.specs.Layout as L
 use borrow.Author.Needs.{needs}
 use Rattle.distributor.proofs.PadLaws.{lent-back}
-use Rattle.distributor.proofs.RowLaws.{open-row-length}
+use Rattle.rules.proofs.RowLaws.{open-row-length}
 use lib.ListN.{take}
-use Rattle.distributor.specs.Layout.{rowsAt, rowLength}
+use Rattle.rules.specs.Layout.{rowsAt, rowLength}
 use borrow.Author.Needs.{needs}
 use Rattle.distributor.proofs.storing.put_open.Statement.{statement}
 use Rattle.distributor.proofs.storing.put_open.Tie as tie

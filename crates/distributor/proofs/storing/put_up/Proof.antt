@@ -4,14 +4,14 @@ use denote.Ref.{now}
 use Prim.Native.Nat.{ℕ, _-_}
 use mathlib.Core.List.{List, [], _∷_, _++_}
 use lib.ListN.{length}
-use Rattle.distributor.specs.Layout as L
+use Rattle.rules.specs.Layout as L
 use borrow.Author.Needs.{needs}
 use Rattle.octets.proofs.WriteLaws.{wrote-none, wrote-over, wrote-more}
-use Rattle.distributor.specs.Limits.{listLimit}
-use Rattle.distributor.proofs.FieldLaws.{padded-length, field-length}
+use Rattle.rules.specs.Limits.{listLimit}
+use Rattle.rules.proofs.FieldLaws.{padded-length, field-length}
 use Rattle.distributor.proofs.PadLaws.{padded-none}
 use Rattle.distributor.proofs.RowWriting.{wrote-at, wrote-all}
-use Rattle.distributor.specs.Layout.{rowsAt, blockLength}
+use Rattle.rules.specs.Layout.{rowsAt, blockLength}
 use borrow.Author.Needs.{needs}
 use Rattle.distributor.proofs.storing.put_up.Statement.{statement}
 use Rattle.distributor.proofs.storing.put_up.Tie as tie

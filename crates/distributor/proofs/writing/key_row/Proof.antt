@@ -3,8 +3,8 @@ use mathlib.Core.Path.{_≡_, refl, sym, _∙_}
 use denote.Ref.{now}
 use mathlib.Core.List.{[], _∷_, _++_}
 use lib.ListN.{length}
-use Rattle.distributor.specs.Limits.{places}
-use Rattle.distributor.specs.Layout as L
+use Rattle.rules.specs.Limits.{places}
+use Rattle.rules.specs.Layout as L
 use borrow.Author.Needs.{needs}
 use Rattle.octets.proofs.WriteLaws.{wrote-none, wrote-over, wrote-more}
 use Rattle.octets.specs.Number.{octets16}
@@ -12,13 +12,13 @@ use Rattle.octets.specs.Part.{part}
 use Rattle.octets.specs.Bounds.{partIn}
 use Rattle.message.specs.Limits.{mkiLimit, saltLimit}
 use Rattle.message.specs.Parts.{keyPlaces}
-use Rattle.distributor.specs.Limits.{keyLimit}
-use Rattle.distributor.specs.Keys.{keysIn}
-use Rattle.distributor.proofs.FieldLaws.{field-length}
+use Rattle.rules.specs.Limits.{keyLimit}
+use Rattle.rules.specs.Keys.{keysIn}
+use Rattle.rules.proofs.FieldLaws.{field-length}
 use Rattle.distributor.proofs.RowWriting.{wrote-at, wrote-keep, wrote-all, octets-of-16}
-use Rattle.distributor.proofs.KeysRoom.{part-room}
+use Rattle.rules.proofs.KeysRoom.{part-room}
 use lib.ListN.{length-append}
-use Rattle.distributor.specs.Layout.{rowLength, identifierAt, profileAt, mkiAt, clientKeyAt, serverKeyAt, clientSaltAt, serverSaltAt}
+use Rattle.rules.specs.Layout.{rowLength, identifierAt, profileAt, mkiAt, clientKeyAt, serverKeyAt, clientSaltAt, serverSaltAt}
 use borrow.Author.Needs.{needs}
 use Rattle.distributor.proofs.writing.key_row.Statement.{statement}
 use Rattle.distributor.proofs.writing.key_row.Tie as tie

@@ -4,16 +4,16 @@ use denote.Ref.{now}
 use Prim.Native.Nat.{ℕ, _+_, _-_, _%_}
 use mathlib.Core.List.{List, [], _∷_, _++_}
 use lib.ListN.{length}
-use Rattle.distributor.specs.Layout as L
+use Rattle.rules.specs.Layout as L
 use borrow.Author.Needs.{needs}
 use Rattle.octets.proofs.WriteLaws.{wrote-none, wrote-over, wrote-more}
 use Rattle.octets.specs.Number.{octets16}
 use Rattle.message.specs.Limits.{width}
-use Rattle.distributor.proofs.FieldLaws.{padded-length}
+use Rattle.rules.proofs.FieldLaws.{padded-length}
 use Rattle.distributor.proofs.PadLaws.{padded-none}
 use Rattle.distributor.proofs.RowWriting.{wrote-at, wrote-all, octets-of-32}
 use lib.ListN.{length-append}
-use Rattle.distributor.specs.Layout.{rowLength, identifierAt, endpointAt, profileAt}
+use Rattle.rules.specs.Layout.{rowLength, identifierAt, endpointAt, profileAt}
 use mathlib.Core.List.{append-assoc}
 use Prim.Native.Nat.{_/_}
 use borrow.Author.Needs.{needs}

@@ -1,9 +1,9 @@
 use mathlib.Core.Path.{refl, sym, ap, _∙_}
 use denote.Ref.{now}
-use Rattle.distributor.specs.Answer.{ended}
-use Rattle.distributor.specs.Call as Call
+use Rattle.rules.specs.Answer.{ended}
+use Rattle.rules.specs.Call as Call
 use Rattle.distributor.specs.Outcomes.{endedOf}
-use Rattle.distributor.specs.Table.{answer, step}
+use Rattle.rules.specs.Table.{answer, step}
 use Rattle.service.specs.Request.{call, misshapen}
 use Rattle.service.proofs.RequestLaws.{same-serving, end-misshapen, end-request, call-served}
 use borrow.Author.Needs.{needs}

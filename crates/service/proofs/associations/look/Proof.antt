@@ -1,8 +1,8 @@
 use mathlib.Core.Path.{sym, ap, _∙_}
 use denote.Ref.{now}
-use Rattle.distributor.specs.Call as Call
+use Rattle.rules.specs.Call as Call
 use Rattle.distributor.specs.Record.{foundOf}
-use Rattle.distributor.specs.Table.{answer}
+use Rattle.rules.specs.Table.{answer}
 use Rattle.distributor.specs.declared.looking.Found.{Found}
 use Rattle.service.specs.Request.{call, misshapen}
 use Rattle.service.proofs.RequestLaws.{same-reply, look-misshapen, look-request, call-replied}

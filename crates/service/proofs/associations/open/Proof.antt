@@ -2,9 +2,9 @@ use mathlib.Core.Path.{refl, sym, ap, _∙_}
 use Prim.Native.Nat.{_-_}
 use denote.Ref.{now}
 use lib.ListN.{length, take, drop}
-use Rattle.distributor.specs.Call as Call
+use Rattle.rules.specs.Call as Call
 use Rattle.distributor.specs.Outcomes.{openedOf}
-use Rattle.distributor.specs.Table.{answer, step}
+use Rattle.rules.specs.Table.{answer, step}
 use Rattle.service.specs.Limits.{endpointLength}
 use Rattle.service.specs.Request.{call, misshapen}
 use Rattle.service.proofs.RequestLaws.{same-serving, open-short, open-request, call-served}

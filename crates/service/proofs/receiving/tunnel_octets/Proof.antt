@@ -1,8 +1,8 @@
 use mathlib.Core.Path.{sym, ap, _∙_}
 use denote.Ref.{now}
-use Rattle.distributor.specs.Call as Call
+use Rattle.rules.specs.Call as Call
 use Rattle.distributor.specs.Outcomes.{receivedOf}
-use Rattle.distributor.specs.Table.{answer, step}
+use Rattle.rules.specs.Table.{answer, step}
 use Rattle.service.proofs.TunnelLaws.{refused-received, delivery-fits, same-octets}
 use Rattle.service.proofs.RequestLaws.{call-served}
 use borrow.Author.Needs.{needs}

@@ -3,7 +3,7 @@ use mathlib.Core.List.{[], _∷_}
 use native.Mathlib.Omega.{arith}
 use denote.Ref.{now}
 use lib.ListN.{length-append}
-use Rattle.distributor.specs.Layout.{octetsOf32}
+use Rattle.rules.specs.Layout.{octetsOf32}
 use Rattle.service.proofs.PieceLaws.{three}
 use borrow.Author.Needs.{needs}
 use Rattle.service.proofs.record.put_front.Statement.{statement}

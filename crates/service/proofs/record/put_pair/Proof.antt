@@ -1,7 +1,7 @@
 use native.Mathlib.Omega.{arith}
 use denote.Ref.{now}
 use lib.ListN.{take}
-use Rattle.distributor.specs.Limits.{keyLimit}
+use Rattle.rules.specs.Limits.{keyLimit}
 use Rattle.service.proofs.PieceLaws.{more}
 use Rattle.service.proofs.RecordLaws.{fielded}
 use borrow.Author.Needs.{needs}

@@ -1,7 +1,7 @@
 use mathlib.Core.Path.{refl}
 use Prim.Native.Nat.{_-_}
 use lib.ListN.{length, take, drop}
-use Rattle.distributor.specs.Call as Call
+use Rattle.rules.specs.Call as Call
 use Rattle.service.specs.Limits.{endpointLength, room}
 use Rattle.service.specs.Request.{call, misshapen}
 use Rattle.service.proofs.RequestLaws.{same-reply, packet-short, packet-request}

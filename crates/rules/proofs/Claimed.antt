@@ -1,0 +1,76 @@
+-- The claim holds of every list of calls.
+use Prim.Native.Nat.{ℕ}
+use mathlib.Core.Path.{_≡_, refl, sym, ap, ap₂, subst, _∙_}
+use mathlib.Core.List.{List, [], _∷_, map}
+use Rattle.rules.specs.Call as Call
+use Rattle.rules.specs.Answer.{Answer}
+use Rattle.rules.specs.Layout.{downBlock}
+use Rattle.rules.specs.Table.{step, run, answer, answers}
+use Rattle.rules.specs.View.{view}
+use Rattle.rules.specs.Cards as Cards
+use Rattle.rules.specs.Cards.{fed, next}
+use Rattle.rules.specs.CardAnswers.{due, dues}
+use Rattle.rules.specs.Claim.{Claim, Handed, apart, handedBy, handout, handouts, handedDue, handedDues}
+use Rattle.rules.proofs.RowsLaws.{Legal}
+use Rattle.rules.proofs.ViewLaws.{legal-down, view-down, legal-step, view-step, view-answer}
+use Rattle.rules.proofs.Agrees.{Agrees}
+use Rattle.rules.proofs.AgreesChange.{first-agrees}
+use Rattle.rules.proofs.AgreesSays.{agrees-cards}
+use Rattle.rules.proofs.AgreesSteps.{agrees-step}
+use Rattle.rules.proofs.AgreesAnswers.{agrees-answer}
+use Rattle.rules.proofs.AgreesHanded.{agrees-handed}
+
+-- a block that is legal and as the cards say, seen through its view
+pub record Kept (s : List ℕ) (cards : Cards.Cards) : Type 0 where
+  pub legal : Legal s
+  pub agrees : Agrees (view s) cards
+
+kept-first : Kept downBlock Cards.first
+kept-first = record { legal = legal-down; agrees = subst (λ v. Agrees v Cards.first) (sym view-down) first-agrees }
+
+module _ {s : List ℕ} {cards : Cards.Cards} (k : Kept s cards) where
+  kept-step : (c : Call.Call) → Kept (step s c) (next cards c)
+  kept-step c = record {
+    legal = legal-step s (k .legal) c;
+    agrees = subst (λ v. Agrees v (next cards c)) (sym (view-step s (k .legal) c)) (agrees-step (view s) cards (k .agrees) c);
+  }
+
+  kept-answer : (c : Call.Call) → apart (answer s c) ≡ due cards c
+  kept-answer c = ap apart (view-answer s (k .legal) c) ∙ agrees-answer (view s) cards (k .agrees) c
+
+  kept-handed : (c : Call.Call) → handout s c ≡ handedDue cards c
+  unfolding handout handedDue
+  kept-handed (Call.start list room) = refl
+  kept-handed (Call.opening i e) = refl
+  kept-handed (Call.boothPacket e packet room) = refl
+  kept-handed (Call.tunnelOctets octets) =
+      ap (handedBy octets) (view-answer s (k .legal) (Call.tunnelOctets octets)) ∙ agrees-handed (view s) cards (k .agrees) octets
+  kept-handed (Call.close i room) = refl
+  kept-handed Call.end = refl
+  kept-handed (Call.look e) = refl
+
+-- ---- along a list
+
+kept-run : (calls : List Call.Call) (s : List ℕ) (cards : Cards.Cards) → Kept s cards → Kept (run s calls) (fed cards calls)
+unfolding run fed
+kept-run [] s cards k = k
+kept-run (c ∷ cs) s cards k = kept-run cs (step s c) (next cards c) (kept-step k c)
+
+kept-answers : (calls : List Call.Call) (s : List ℕ) (cards : Cards.Cards) → Kept s cards → map apart (answers s calls) ≡ dues cards calls
+unfolding answers dues
+kept-answers [] s cards k = refl
+kept-answers (c ∷ cs) s cards k =
+    ap₂ (λ (a : Answer) (l : List Answer). a ∷ l) (kept-answer k c) (kept-answers cs (step s c) (next cards c) (kept-step k c))
+
+kept-handouts : (calls : List Call.Call) (s : List ℕ) (cards : Cards.Cards) → Kept s cards → handouts s calls ≡ handedDues cards calls
+unfolding handouts handedDues
+kept-handouts [] s cards k = refl
+kept-handouts (c ∷ cs) s cards k =
+    ap₂ (λ (h : Handed) (l : List Handed). h ∷ l) (kept-handed k c) (kept-handouts cs (step s c) (next cards c) (kept-step k c))
+
+pub claim : (calls : List Call.Call) → Claim calls
+claim calls = record {
+  state = agrees-cards _ _ (kept-run calls downBlock Cards.first kept-first .agrees);
+  deliveries = kept-handouts calls downBlock Cards.first kept-first;
+  answered = kept-answers calls downBlock Cards.first kept-first;
+}

@@ -1,0 +1,54 @@
+-- What a call on a block answers is what the call on its view answers.
+use Prim.Native.Nat.{ℕ}
+use mathlib.Core.Path.{_≡_, refl, sym, ap, _∙_}
+use mathlib.Core.Bool.{true}
+use mathlib.Core.List.{List}
+use Rattle.octets.specs.Bounds.{partIn}
+use Rattle.message.specs.Message.{Message, encode}
+use Rattle.message.specs.Parts.{identifierPlace, dtlsPlace}
+use Rattle.message.specs.Read as Read
+use Rattle.message.specs.declared.bodies.Fields.{Fields}
+use Rattle.message.specs.declared.bodies.Fields.the-variants.{SupportedProfiles, UnsupportedVersion, MediaKeys, TunneledDtls, EndpointDisconnect}
+use Rattle.rules.specs.Call.{Call, start, opening, boothPacket, tunnelOctets, close, end, look}
+use Rattle.rules.specs.Layout.{up, rowOf}
+use Rattle.rules.specs.Answer.{Answer, refused, wrote, found, delivery}
+use Rattle.rules.specs.Refusals.{receiving}
+use Rattle.rules.specs.Table.{placeOfIdentifier, knows, packetVerdict, lookVerdict, startAnswer, openAnswer, packetAnswer, closeAnswer, endAnswer, lookAnswer, fieldsAnswer, readAnswer, octetsAnswer, answer}
+use Rattle.rules.specs.View.{view, endpointIn}
+use Rattle.rules.proofs.ViewSteps as Steps
+use Rattle.rules.proofs.ViewSteps.{viewAnswer}
+use Rattle.rules.proofs.VerdictLaws.{answered-same, cond-same}
+use Rattle.rules.proofs.ViewTests.{view-up, view-vacant, view-knows, view-known, view-served, association-endpoint}
+use Rattle.rules.proofs.ViewVerdicts.{view-start-verdict, view-open-verdict, view-close-verdict, view-look-verdict, view-keys-verdict, view-packet-message, view-packet-verdict, packet-passed, look-passed}
+
+module _ (s : List ℕ) where
+  fields-answer : up s ≡ true → (octets : List ℕ) (f : Fields) (taken : ℕ) → fieldsAnswer s octets f taken ≡ Steps.fieldsAnswer (view s) octets f taken
+  unfolding fieldsAnswer Steps.fieldsAnswer
+  fields-answer u octets (SupportedProfiles v n) taken = refl
+  fields-answer u octets (UnsupportedVersion v) taken = refl
+  fields-answer u octets (MediaKeys profile k) taken = rw (view-keys-verdict s u (partIn octets identifierPlace) profile k)
+  fields-answer u octets (TunneledDtls n) taken =
+      let i = partIn octets identifierPlace in
+      rw (view-knows s i)
+      (cond-same (knows s i) (refused 6 taken) (λ h.
+      ap (λ (e : ℕ). delivery e (dtlsPlace n) taken) (sym (ap endpointIn (view-known s i h) ∙ association-endpoint (rowOf s (placeOfIdentifier s i))))))
+  fields-answer u octets EndpointDisconnect taken = rw (view-knows s (partIn octets identifierPlace))
+
+  read-answer : up s ≡ true → (octets : List ℕ) (a : Read.Answer) → readAnswer s octets a ≡ Steps.readAnswer (view s) octets a
+  read-answer u octets Read.moreNeeded = refl
+  read-answer u octets (Read.refused number taken) = refl
+  read-answer u octets (Read.accepted f taken) = fields-answer u octets f taken
+
+  pub call-answer : (c : Call) → answer s c ≡ viewAnswer (view s) c
+  unfolding answer viewAnswer startAnswer openAnswer packetAnswer octetsAnswer closeAnswer endAnswer lookAnswer
+  call-answer (start list room) = rw (view-start-verdict s list room)
+  call-answer (opening i e) = rw (view-open-verdict s i e, view-vacant s)
+  call-answer (boothPacket e packet room) =
+      rw (view-packet-verdict s e packet room)
+      (answered-same (packetVerdict s e packet room) 0 (λ h.
+      ap (λ (m : Message). wrote (encode m)) (sym (view-packet-message s e packet (packet-passed s e packet room h)))))
+  call-answer (tunnelOctets octets) = rw (view-up s) (cond-same (up s) (refused 1 0) (λ u. read-answer u octets (receiving octets)))
+  call-answer (close i room) = rw (view-close-verdict s i room)
+  call-answer end = rw (view-up s)
+  call-answer (look e) =
+      rw (view-look-verdict s e) (answered-same (lookVerdict s e) 0 (λ h. ap found (sym (view-served s e (look-passed s e h)))))

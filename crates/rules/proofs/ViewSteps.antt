@@ -1,0 +1,141 @@
+-- The calls on the view: what each answers and makes of tunnel and table, record by record.
+use Prim.Native.Nat.{ℕ}
+use mathlib.Core.Bool.{Bool, true, false, cond, not}
+use mathlib.Core.List.{List, []}
+use mathlib.Core.Option.{some, none}
+use lib.Dec.{eqb}
+use lib.ListN.{getD, set, replicate}
+use Rattle.octets.specs.Bounds.{partIn}
+use Rattle.message.specs.Message.{Message, tunneledDtls, endpointDisconnect, encode}
+use Rattle.message.specs.Parts.{identifierPlace, dtlsPlace}
+use Rattle.message.specs.Profiles.{goodList, inList, keysFit, mkiAndSaltsFit}
+use Rattle.message.specs.Read as Read
+use Rattle.message.specs.declared.bodies.Fields.{Fields}
+use Rattle.message.specs.declared.bodies.Fields.the-variants.{SupportedProfiles, UnsupportedVersion, MediaKeys, TunneledDtls, EndpointDisconnect}
+use Rattle.message.specs.declared.bodies.KeyLengths.{KeyLengths}
+use Rattle.rules.specs.Limits.{places}
+use Rattle.rules.specs.Search as Search
+use Rattle.rules.specs.Keys.{Keys, keysIn}
+use Rattle.rules.specs.Tunnel.{down, upWith, isUp, listIn}
+use Rattle.rules.specs.Call as Call
+use Rattle.rules.specs.Verdict.{Verdict, allowed, refuse, after}
+use Rattle.rules.specs.Answer as Answer
+use Rattle.rules.specs.Answer.{Association, Answer, refused, moreNeeded, wrote, placed, ended, found, keysStored, delivery, removed, version, answered}
+use Rattle.rules.specs.Refusals.{wrongWidth, noRoom, notDtls, tooLong, startMessage, receiving}
+use Rattle.rules.specs.View.{Slot, View, identifierIn, endpointIn, isFor}
+
+-- ---- what stands at a place
+
+abbrev pub isVacant : Slot → Bool
+isVacant none = true
+isVacant (some a) = false
+
+abbrev pub isServing : ℕ → Slot → Bool
+isServing endpoint none = false
+isServing endpoint (some a) = eqb (endpointIn a) endpoint
+
+-- the association at a place; where there is none, one that no answer asks for
+abbrev pub inSlot : Slot → Association
+inSlot none = Answer.opened [] 0
+inSlot (some a) = a
+
+abbrev pub firstWith : (Slot → Bool) → View → Association
+firstWith p v = inSlot (getD (v .table) (Search.first p (v .table)) none)
+
+abbrev pub withSlot : (Slot → Bool) → Slot → View → View
+withSlot p x v = record { tunnel = v .tunnel; table = set (v .table) (Search.first p (v .table)) x }
+
+abbrev pub has : (Slot → Bool) → View → Bool
+has p v = Search.someOf p (v .table)
+
+-- all key fields replaced
+abbrev pub rekey : Keys → Association → Association
+rekey k (Answer.opened i e) = Answer.keyed i e k
+rekey k (Answer.keyed i e old) = Answer.keyed i e k
+
+abbrev pub downView : View
+downView = record { tunnel = down; table = replicate places none }
+
+abbrev pub upView : List ℕ → View
+upView list = record { tunnel = upWith list; table = replicate places none }
+
+abbrev pub isDown : View → Bool
+isDown v = not (isUp (v .tunnel))
+
+-- ---- the calls
+
+unfoldable pub startVerdict : View → List ℕ → (room : ℕ) → Verdict
+startVerdict v list room = refuse (isUp (v .tunnel)) 17 (refuse (not (goodList list)) 16 (refuse (noRoom (startMessage list) room) 13 allowed))
+
+unfoldable pub openVerdict : View → List ℕ → ℕ → Verdict
+openVerdict v i e =
+    refuse (isDown v) 1 (refuse (wrongWidth i) 20 (refuse (has (isFor i) v) 11 (refuse (has (isServing e) v) 12 (refuse (not (has isVacant v)) 10 allowed))))
+
+abbrev pub packetMessage : View → ℕ → List ℕ → Message
+packetMessage v e packet = tunneledDtls (identifierIn (firstWith (isServing e) v)) packet
+
+unfoldable pub packetVerdict : View → ℕ → List ℕ → (room : ℕ) → Verdict
+packetVerdict v e packet room =
+    refuse (isDown v) 1 (refuse (not (has (isServing e) v)) 6 (refuse (notDtls packet) 14 (refuse (tooLong packet) 15 (refuse (noRoom (packetMessage v e packet) room) 13 allowed))))
+
+unfoldable pub closeVerdict : View → List ℕ → (room : ℕ) → Verdict
+closeVerdict v i room =
+    refuse (isDown v) 1 (refuse (wrongWidth i) 20 (refuse (not (has (isFor i) v)) 6 (refuse (noRoom (endpointDisconnect i) room) 13 allowed)))
+
+unfoldable pub lookVerdict : View → ℕ → Verdict
+lookVerdict v e = refuse (isDown v) 1 (refuse (not (has (isServing e) v)) 6 allowed)
+
+unfoldable pub keysVerdict : View → List ℕ → (profile : ℕ) → KeyLengths → Verdict
+keysVerdict v i profile k =
+    refuse (not (has (isFor i) v)) 6
+    (refuse (not (inList profile (listIn (v .tunnel)))) 7
+    (refuse (not (keysFit profile k)) 8
+    (refuse (not (mkiAndSaltsFit k)) 9 allowed)))
+
+unfoldable pub fieldsAnswer : View → List ℕ → Fields → (taken : ℕ) → Answer
+fieldsAnswer v octets (SupportedProfiles x n) taken = refused 4 taken
+fieldsAnswer v octets (UnsupportedVersion x) taken = version x taken
+fieldsAnswer v octets (MediaKeys profile k) taken = answered (keysVerdict v (partIn octets identifierPlace) profile k) taken (keysStored taken)
+fieldsAnswer v octets (TunneledDtls n) taken =
+    cond (has (isFor (partIn octets identifierPlace)) v)
+    (delivery (endpointIn (firstWith (isFor (partIn octets identifierPlace)) v)) (dtlsPlace n) taken)
+    (refused 6 taken)
+fieldsAnswer v octets EndpointDisconnect taken = cond (has (isFor (partIn octets identifierPlace)) v) (removed taken) (refused 6 taken)
+
+unfoldable pub fieldsNext : View → List ℕ → Fields → View
+fieldsNext v octets (SupportedProfiles x n) = v
+fieldsNext v octets (UnsupportedVersion x) = downView
+fieldsNext v octets (MediaKeys profile k) =
+    after (keysVerdict v (partIn octets identifierPlace) profile k)
+    (withSlot (isFor (partIn octets identifierPlace)) (some (rekey (keysIn octets profile k) (firstWith (isFor (partIn octets identifierPlace)) v))) v) v
+fieldsNext v octets (TunneledDtls n) = v
+fieldsNext v octets EndpointDisconnect =
+    cond (has (isFor (partIn octets identifierPlace)) v) (withSlot (isFor (partIn octets identifierPlace)) none v) v
+
+abbrev pub readAnswer : View → List ℕ → Read.Answer → Answer
+readAnswer v octets Read.moreNeeded = moreNeeded
+readAnswer v octets (Read.refused number taken) = refused number taken
+readAnswer v octets (Read.accepted f taken) = fieldsAnswer v octets f taken
+
+abbrev pub readNext : View → List ℕ → Read.Answer → View
+readNext v octets Read.moreNeeded = v
+readNext v octets (Read.refused number taken) = cond (eqb number 2) downView v
+readNext v octets (Read.accepted f taken) = fieldsNext v octets f
+
+unfoldable pub viewAnswer : View → Call.Call → Answer
+viewAnswer v (Call.start list room) = answered (startVerdict v list room) 0 (wrote (encode (startMessage list)))
+viewAnswer v (Call.opening i e) = answered (openVerdict v i e) 0 (placed (Search.first isVacant (v .table)))
+viewAnswer v (Call.boothPacket e packet room) = answered (packetVerdict v e packet room) 0 (wrote (encode (packetMessage v e packet)))
+viewAnswer v (Call.tunnelOctets octets) = cond (isUp (v .tunnel)) (readAnswer v octets (receiving octets)) (refused 1 0)
+viewAnswer v (Call.close i room) = answered (closeVerdict v i room) 0 (wrote (encode (endpointDisconnect i)))
+viewAnswer v Call.end = cond (isUp (v .tunnel)) ended (refused 1 0)
+viewAnswer v (Call.look e) = answered (lookVerdict v e) 0 (found (firstWith (isServing e) v))
+
+unfoldable pub viewStep : View → Call.Call → View
+viewStep v (Call.start list room) = after (startVerdict v list room) (upView list) v
+viewStep v (Call.opening i e) = after (openVerdict v i e) (withSlot isVacant (some (Answer.opened i e)) v) v
+viewStep v (Call.boothPacket e packet room) = v
+viewStep v (Call.tunnelOctets octets) = cond (isUp (v .tunnel)) (readNext v octets (receiving octets)) v
+viewStep v (Call.close i room) = after (closeVerdict v i room) (withSlot (isFor i) none v) v
+viewStep v Call.end = cond (isUp (v .tunnel)) downView v
+viewStep v (Call.look e) = v

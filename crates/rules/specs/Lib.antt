@@ -1,0 +1,14 @@
+pub mod Limits
+pub mod Search
+pub mod Keys
+pub mod Tunnel
+pub mod Call
+pub mod Layout
+pub mod Verdict
+pub mod Answer
+pub mod Refusals
+pub mod Table
+pub mod View
+pub mod Cards
+pub mod CardAnswers
+pub mod Claim

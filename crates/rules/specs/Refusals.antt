@@ -1,0 +1,63 @@
+-- The single tests that refusals go by, of the arguments alone, and the messages that calls write: document 01, "Refusal numbers" and "The record and its calls".
+use Prim.Native.Nat.{ℕ, _+_}
+use mathlib.Core.Bool.{Bool, true, false, not}
+use mathlib.Core.List.{List}
+use lib.ListN.{length}
+use lib.Dec.{ltb, eqb}
+use Rattle.demux.specs.Sorting as Sorting
+use Rattle.demux.specs.declared.sorting.Kind.{Kind}
+use Rattle.message.specs.Limits.{width, header}
+use Rattle.message.specs.Message.{Message, supportedProfiles, encode}
+use Rattle.message.specs.Frame as Frame
+use Rattle.message.specs.Read as Read
+use Rattle.message.specs.declared.framing.Kind as MessageKind
+use Rattle.rules.specs.Limits.{packetLimit}
+
+-- 20: identifier not A octets
+abbrev pub wrongWidth : List ℕ → Bool
+wrongWidth identifier = not (eqb (length identifier) width)
+
+-- 13: by the encoding of what must be written
+abbrev pub noRoom : Message → (room : ℕ) → Bool
+noRoom m room = ltb room (length (encode m))
+
+-- 14: the packet is empty or not DTLS
+abbrev pub isDtlsKind : Kind → Bool
+isDtlsKind Kind.Stun = false
+isDtlsKind Kind.Dtls = true
+isDtlsKind Kind.Rtp = false
+isDtlsKind Kind.Other = false
+
+abbrev pub sortsAsDtls : Sorting.Answer → Bool
+sortsAsDtls (Sorting.refused number) = false
+sortsAsDtls (Sorting.kind k) = isDtlsKind k
+
+unfoldable pub notDtls : List ℕ → Bool
+notDtls packet = not (sortsAsDtls (Sorting.sorting packet))
+
+-- 15: packet over 4,094 - A octets
+abbrev pub tooLong : List ℕ → Bool
+tooLong packet = ltb packetLimit (length packet)
+
+-- we speak version 0
+abbrev pub startMessage : List ℕ → Message
+startMessage list = supportedProfiles 0 list
+
+-- what is so of a whole message of type 1, by its body's length, and what of all else
+abbrev pub ofProfiles : {X : Type 0} → Frame.Framing → (ℕ → X) → X → X
+ofProfiles Frame.moreNeeded x y = y
+ofProfiles (Frame.refused number taken) x y = y
+ofProfiles (Frame.version number) x y = y
+ofProfiles (Frame.whole MessageKind.Kind.SupportedProfiles n) x y = x n
+ofProfiles (Frame.whole MessageKind.Kind.UnsupportedVersion n) x y = y
+ofProfiles (Frame.whole MessageKind.Kind.MediaKeys n) x y = y
+ofProfiles (Frame.whole MessageKind.Kind.TunneledDtls n) x y = y
+ofProfiles (Frame.whole MessageKind.Kind.EndpointDisconnect n) x y = y
+ofProfiles (Frame.whole MessageKind.Kind.Unlisted n) x y = y
+
+-- the reading of octets from the key distributor: refusal 4, for a whole message of type 1, comes before the body
+abbrev pub received : List ℕ → Frame.Framing → Read.Answer
+received s f = ofProfiles f (λ n. Read.refused 4 (header + n)) (Read.frameAnswer s f)
+
+unfoldable pub receiving : List ℕ → Read.Answer
+receiving s = received s (Frame.frame s)

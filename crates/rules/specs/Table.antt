@@ -1,0 +1,202 @@
+-- What each call answers and makes of the block, octet by octet: document 01, "The record and its calls".
+use Prim.Native.Nat.{ℕ}
+use mathlib.Core.Bool.{Bool, cond, not}
+use mathlib.Core.List.{List, [], _∷_}
+use lib.Dec.{ltb, eqb}
+use Rattle.octets.specs.Bounds.{partIn}
+use Rattle.message.specs.Message.{Message, tunneledDtls, endpointDisconnect, encode}
+use Rattle.message.specs.Parts.{identifierPlace, dtlsPlace}
+use Rattle.message.specs.Profiles.{goodList, inList, keysFit, mkiAndSaltsFit}
+use Rattle.message.specs.Read as Read
+use Rattle.message.specs.declared.bodies.Fields.{Fields}
+use Rattle.message.specs.declared.bodies.Fields.the-variants.{SupportedProfiles, UnsupportedVersion, MediaKeys, TunneledDtls, EndpointDisconnect}
+use Rattle.message.specs.declared.bodies.KeyLengths.{KeyLengths}
+use Rattle.rules.specs.Limits.{places}
+use Rattle.rules.specs.Search.{first}
+use Rattle.rules.specs.Keys.{keysIn}
+use Rattle.rules.specs.Call as Call
+use Rattle.rules.specs.Layout.{up, listOf, rows, rowOf, identifierOf, endpointOf, keysOf, named, serving, vacant, stateAt, vacantRow, openRow, keyedRow, withRow, downBlock, upBlock}
+use Rattle.rules.specs.Verdict.{Verdict, allowed, refuse, after}
+use Rattle.rules.specs.Answer.{Association, opened, keyed, Answer, refused, moreNeeded, wrote, placed, ended, found, keysStored, delivery, removed, version, answered}
+use Rattle.rules.specs.Refusals.{wrongWidth, noRoom, notDtls, tooLong, startMessage, receiving}
+use Rattle.octets.specs.Number.{octetAt}
+
+-- ---- searching; a place that is not there is the number of places
+
+unfoldable pub placeOfIdentifier : List ℕ → List ℕ → ℕ
+placeOfIdentifier s identifier = first (named identifier) (rows s)
+
+unfoldable pub placeOfEndpoint : List ℕ → ℕ → ℕ
+placeOfEndpoint s endpoint = first (serving endpoint) (rows s)
+
+unfoldable pub vacantPlace : List ℕ → ℕ
+vacantPlace s = first vacant (rows s)
+
+abbrev pub knows : List ℕ → List ℕ → Bool
+knows s identifier = ltb (placeOfIdentifier s identifier) places
+
+abbrev pub serves : List ℕ → ℕ → Bool
+serves s endpoint = ltb (placeOfEndpoint s endpoint) places
+
+abbrev pub hasRoom : List ℕ → Bool
+hasRoom s = ltb (vacantPlace s) places
+
+-- ---- Start: 17, 16, 13
+
+unfoldable pub startVerdict : List ℕ → List ℕ → (room : ℕ) → Verdict
+startVerdict s list room = refuse (up s) 17 (refuse (not (goodList list)) 16 (refuse (noRoom (startMessage list) room) 13 allowed))
+
+unfoldable pub startAnswer : List ℕ → List ℕ → (room : ℕ) → Answer
+startAnswer s list room = answered (startVerdict s list room) 0 (wrote (encode (startMessage list)))
+
+unfoldable pub startNext : List ℕ → List ℕ → (room : ℕ) → List ℕ
+startNext s list room = after (startVerdict s list room) (upBlock list) s
+
+-- ---- Open: 1, 20, 11, 12, 10
+
+unfoldable pub openVerdict : List ℕ → List ℕ → ℕ → Verdict
+openVerdict s identifier endpoint =
+    refuse (not (up s)) 1
+    (refuse (wrongWidth identifier) 20
+    (refuse (knows s identifier) 11
+    (refuse (serves s endpoint) 12
+    (refuse (not (hasRoom s)) 10 allowed))))
+
+unfoldable pub openAnswer : List ℕ → List ℕ → ℕ → Answer
+openAnswer s identifier endpoint = answered (openVerdict s identifier endpoint) 0 (placed (vacantPlace s))
+
+unfoldable pub openNext : List ℕ → List ℕ → ℕ → List ℕ
+openNext s identifier endpoint = after (openVerdict s identifier endpoint) (withRow s (vacantPlace s) (openRow identifier endpoint)) s
+
+-- ---- Booth packet: 1, 6, 14, 15, 13
+
+unfoldable pub packetMessage : List ℕ → ℕ → List ℕ → Message
+packetMessage s endpoint packet = tunneledDtls (identifierOf (rowOf s (placeOfEndpoint s endpoint))) packet
+
+unfoldable pub packetVerdict : List ℕ → ℕ → List ℕ → (room : ℕ) → Verdict
+packetVerdict s endpoint packet room =
+    refuse (not (up s)) 1
+    (refuse (not (serves s endpoint)) 6
+    (refuse (notDtls packet) 14
+    (refuse (tooLong packet) 15
+    (refuse (noRoom (packetMessage s endpoint packet) room) 13 allowed))))
+
+unfoldable pub packetAnswer : List ℕ → ℕ → List ℕ → (room : ℕ) → Answer
+packetAnswer s endpoint packet room = answered (packetVerdict s endpoint packet room) 0 (wrote (encode (packetMessage s endpoint packet)))
+
+-- ---- Close: 1, 20, 6, 13
+
+unfoldable pub closeVerdict : List ℕ → List ℕ → (room : ℕ) → Verdict
+closeVerdict s identifier room =
+    refuse (not (up s)) 1
+    (refuse (wrongWidth identifier) 20
+    (refuse (not (knows s identifier)) 6
+    (refuse (noRoom (endpointDisconnect identifier) room) 13 allowed)))
+
+unfoldable pub closeAnswer : List ℕ → List ℕ → (room : ℕ) → Answer
+closeAnswer s identifier room = answered (closeVerdict s identifier room) 0 (wrote (encode (endpointDisconnect identifier)))
+
+-- the block without the association of an identifier
+abbrev pub without : List ℕ → List ℕ → List ℕ
+without s identifier = withRow s (placeOfIdentifier s identifier) vacantRow
+
+unfoldable pub closeNext : List ℕ → List ℕ → (room : ℕ) → List ℕ
+closeNext s identifier room = after (closeVerdict s identifier room) (without s identifier) s
+
+-- ---- End: 1
+
+unfoldable pub endAnswer : List ℕ → Answer
+endAnswer s = cond (up s) ended (refused 1 0)
+
+unfoldable pub endNext : List ℕ → List ℕ
+endNext s = cond (up s) downBlock s
+
+-- ---- Look: 1, 6
+
+-- the association that a live row holds
+unfoldable pub associationOf : List ℕ → Association
+associationOf r = cond (eqb (octetAt r stateAt) 1) (opened (identifierOf r) (endpointOf r)) (keyed (identifierOf r) (endpointOf r) (keysOf r))
+
+unfoldable pub lookVerdict : List ℕ → ℕ → Verdict
+lookVerdict s endpoint = refuse (not (up s)) 1 (refuse (not (serves s endpoint)) 6 allowed)
+
+unfoldable pub lookAnswer : List ℕ → ℕ → Answer
+lookAnswer s endpoint = answered (lookVerdict s endpoint) 0 (found (associationOf (rowOf s (placeOfEndpoint s endpoint))))
+
+-- ---- Tunnel octets: 1, then the reading; type 3: 6, 7, 8, 9; types 4 and 5: 6
+
+unfoldable pub keysVerdict : List ℕ → List ℕ → (profile : ℕ) → KeyLengths → Verdict
+keysVerdict s identifier profile k =
+    refuse (not (knows s identifier)) 6
+    (refuse (not (inList profile (listOf s))) 7
+    (refuse (not (keysFit profile k)) 8
+    (refuse (not (mkiAndSaltsFit k)) 9 allowed)))
+
+-- the block with the key fields of an identifier's association replaced by those of the octets read
+abbrev pub rekeyed : List ℕ → List ℕ → List ℕ → (profile : ℕ) → KeyLengths → List ℕ
+rekeyed s identifier octets profile k =
+    withRow s (placeOfIdentifier s identifier) (keyedRow (keysIn octets profile k) (rowOf s (placeOfIdentifier s identifier)))
+
+-- a SupportedProfiles does not come this far: refusal 4 is given before its body is read
+unfoldable pub fieldsAnswer : List ℕ → List ℕ → Fields → (taken : ℕ) → Answer
+fieldsAnswer s octets (SupportedProfiles v n) taken = refused 4 taken
+fieldsAnswer s octets (UnsupportedVersion v) taken = version v taken
+fieldsAnswer s octets (MediaKeys profile k) taken = answered (keysVerdict s (partIn octets identifierPlace) profile k) taken (keysStored taken)
+fieldsAnswer s octets (TunneledDtls n) taken =
+    cond (knows s (partIn octets identifierPlace))
+    (delivery (endpointOf (rowOf s (placeOfIdentifier s (partIn octets identifierPlace)))) (dtlsPlace n) taken)
+    (refused 6 taken)
+fieldsAnswer s octets EndpointDisconnect taken = cond (knows s (partIn octets identifierPlace)) (removed taken) (refused 6 taken)
+
+unfoldable pub fieldsNext : List ℕ → List ℕ → Fields → List ℕ
+fieldsNext s octets (SupportedProfiles v n) = s
+fieldsNext s octets (UnsupportedVersion v) = downBlock
+fieldsNext s octets (MediaKeys profile k) =
+    after (keysVerdict s (partIn octets identifierPlace) profile k) (rekeyed s (partIn octets identifierPlace) octets profile k) s
+fieldsNext s octets (TunneledDtls n) = s
+fieldsNext s octets EndpointDisconnect = cond (knows s (partIn octets identifierPlace)) (without s (partIn octets identifierPlace)) s
+
+abbrev pub readAnswer : List ℕ → List ℕ → Read.Answer → Answer
+readAnswer s octets Read.moreNeeded = moreNeeded
+readAnswer s octets (Read.refused number taken) = refused number taken
+readAnswer s octets (Read.accepted f taken) = fieldsAnswer s octets f taken
+
+-- refusal 2 ends the tunnel: no boundary can be found again
+abbrev pub readNext : List ℕ → List ℕ → Read.Answer → List ℕ
+readNext s octets Read.moreNeeded = s
+readNext s octets (Read.refused number taken) = cond (eqb number 2) downBlock s
+readNext s octets (Read.accepted f taken) = fieldsNext s octets f
+
+unfoldable pub octetsAnswer : List ℕ → List ℕ → Answer
+octetsAnswer s octets = cond (up s) (readAnswer s octets (receiving octets)) (refused 1 0)
+
+unfoldable pub octetsNext : List ℕ → List ℕ → List ℕ
+octetsNext s octets = cond (up s) (readNext s octets (receiving octets)) s
+
+-- ---- a list of calls, each on the block that the one before it left
+
+unfoldable pub answer : List ℕ → Call.Call → Answer
+answer s (Call.start list room) = startAnswer s list room
+answer s (Call.opening identifier endpoint) = openAnswer s identifier endpoint
+answer s (Call.boothPacket endpoint packet room) = packetAnswer s endpoint packet room
+answer s (Call.tunnelOctets octets) = octetsAnswer s octets
+answer s (Call.close identifier room) = closeAnswer s identifier room
+answer s Call.end = endAnswer s
+answer s (Call.look endpoint) = lookAnswer s endpoint
+
+unfoldable pub step : List ℕ → Call.Call → List ℕ
+step s (Call.start list room) = startNext s list room
+step s (Call.opening identifier endpoint) = openNext s identifier endpoint
+step s (Call.boothPacket endpoint packet room) = s
+step s (Call.tunnelOctets octets) = octetsNext s octets
+step s (Call.close identifier room) = closeNext s identifier room
+step s Call.end = endNext s
+step s (Call.look endpoint) = s
+
+unfoldable pub run : List ℕ → List Call.Call → List ℕ
+run s [] = s
+run s (c ∷ cs) = run (step s c) cs
+
+unfoldable pub answers : List ℕ → List Call.Call → List Answer
+answers s [] = []
+answers s (c ∷ cs) = answer s c ∷ answers (step s c) cs
