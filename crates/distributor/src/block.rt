@@ -58,5 +58,5 @@ pub(crate) fn row_at(state: &[u8], place: usize) -> &[u8]
     ensures { λ r. ⌜ now r ≡ Spec.rowOf (now (state .entry)) place ⌝ }
 {
     let start = ROWS + place * ROW;
-    octets::part(state, start, start + ROW)
+    &state[start..start + ROW]
 }

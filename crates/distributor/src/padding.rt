@@ -1,20 +1,28 @@
 // Octets written at a place and padded with zeros.
 ghost use mathlib.Core.Path.{_≡_};
 ghost use Prim.Native.Nat.{_+_, _≤_};
-ghost use lib.ListN.{length};
+ghost use lib.ListN.{length, replicate};
 ghost use Rattle.octets.specs.Write.{over};
 ghost use Rattle.rules.specs.Layout as Spec;
+
+fn put_zeros(out: &mut [u8], at: usize, n: usize)
+    requires { ⌜ at + n ≤ length (now out) ⌝ }
+    ensures { λ _. ⌜ now (out .exit) ≡ over (now (out .entry)) at (replicate n 0) ⌝ }
+{
+    let mut i = 0;
+    while i < n {
+        out[at + i] = 0;
+        i += 1;
+    }
+}
 
 // The first n octets of s from a place on, with zeros behind where there are fewer.
 pub(crate) fn put_padded(out: &mut [u8], at: usize, n: usize, s: &[u8])
     requires { ⌜ at + n ≤ length (now out) ⌝ }
     ensures { λ _. ⌜ now (out .exit) ≡ over (now (out .entry)) at (Spec.padded n (now (s .entry))) ⌝ }
 {
-    let mut i = 0;
-    while i < n {
-        out[at + i] = octets::octet(s, i);
-        i += 1;
-    }
+    put_zeros(out, at, n);
+    octets::put_octets(out, at, octets::part(s, 0, n));
 }
 
 // A length octet and the padded field behind it.

@@ -1,11 +1,11 @@
--- Laws of comparing octets. The loop's invariant is `same a b ≡ same (drop i a) (drop i b)`.
+-- Laws of comparing octets.
 use Prim.Native.Nat.{ℕ, suc, _+_, _≤_, _<_}
-use mathlib.Core.Path.{_≡_, refl, ap, ap₂, _∙_}
-use mathlib.Core.Bool.{true, false, and-false}
+use mathlib.Core.Path.{_≡_, refl, sym, ap, ap₂, _∙_}
+use mathlib.Core.Bool.{Bool, true, false, _&&_, and-false, and-true, and-assoc}
 use mathlib.Core.List.{List, [], _∷_}
 use native.Mathlib.Omega.{arith}
 use native.Mathlib.Numerals.{add-one}
-use borrow.Author.Tests.{eq-eqb, ne-eqb, eqb-true}
+use borrow.Author.Tests.{eq-eqb, eqb-true}
 use lib.Dec.{eqb}
 use lib.ListN.{length, getD, drop, drop-of-length-le}
 use lib.Seq.{drop-cons}
@@ -34,21 +34,16 @@ same-lengths [] (y ∷ ys) h = refl
 same-lengths (x ∷ xs) [] h = refl
 same-lengths (x ∷ xs) (y ∷ ys) h = rw (same-lengths xs ys (λ e. h (ap suc e))) (and-false (eqb x y))
 
-module _ (a b : List ℕ) (l : length a ≡ length b) (i : ℕ) (e : same a b ≡ same (drop i a) (drop i b)) where
-  pub same-next : i < length a → getD a i 0 ≡ getD b i 0 → same a b ≡ same (drop (i + 1) a) (drop (i + 1) b)
+-- how far the comparison got: q is whether the octets before i are the same
+module _ (a b : List ℕ) (l : length a ≡ length b) (i : ℕ) (q : Bool) (e : same a b ≡ (q && same (drop i a) (drop i b))) where
+  pub same-next : i < length a → same a b ≡ ((q && eqb (getD a i 0) (getD b i 0)) && same (drop (i + 1) a) (drop (i + 1) b))
   unfolding same
-  same-next h g =
+  same-next h =
       let k : i < length b = omega arith in
-      e ∙ rw (add-one, drop-cons a i 0 h, drop-cons b i 0 k, eq-eqb _ _ g) refl
+      e ∙ rw (add-one, drop-cons a i 0 h, drop-cons b i 0 k) (sym (and-assoc q (eqb (getD a i 0) (getD b i 0)) (same (drop (suc i) a) (drop (suc i) b))))
 
-  pub same-not : i < length a → (getD a i 0 ≡ getD b i 0 → ⊥) → same a b ≡ false
-  unfolding same
-  same-not h g =
-      let k : i < length b = omega arith in
-      e ∙ rw (drop-cons a i 0 h, drop-cons b i 0 k, ne-eqb _ _ g) refl
-
-  pub same-all : length a ≤ i → same a b ≡ true
+  pub same-all : length a ≤ i → same a b ≡ q
   unfolding same
   same-all h =
       let k : length b ≤ i = omega arith in
-      e ∙ rw (drop-of-length-le a h, drop-of-length-le b k) refl
+      e ∙ rw (drop-of-length-le a h, drop-of-length-le b k) (and-true q)

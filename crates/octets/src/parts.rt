@@ -32,19 +32,18 @@ pub fn part_in(s: &[u8], b: Bounds) -> &[u8]
     part(s, b.start, b.end)
 }
 
-// Whether two slices hold the same octets.
+// Whether two slices hold the same octets. No early end: a compiler compares sixteen at a time.
 pub fn same(a: &[u8], b: &[u8]) -> bool
     ensures { λ r. ⌜ r ≡ Spec.same (now (a .entry)) (now (b .entry)) ⌝ }
 {
     if a.len() != b.len() {
         return false;
     }
+    let mut equal = true;
     let mut i = 0;
     while i < a.len() {
-        if a[i] != b[i] {
-            return false;
-        }
+        equal = equal & (a[i] == b[i]);
         i += 1;
     }
-    true
+    equal
 }

@@ -1,17 +1,19 @@
+use Prim.Native.Nat.{_+_, _*_, _-_, _≤_}
+use mathlib.Core.Path.{_≡_, sym, _∙_}
 use native.Mathlib.Omega.{arith}
-use mathlib.Core.Path.{sym, _∙_}
 use denote.Ref.{now}
-use Rattle.rules.specs.Layout as L
+use borrow.Author.Needs.{needs}
+use Rattle.octets.specs.Part.{part}
 use Rattle.rules.proofs.RowsLaws.{row-part}
-use borrow.Author.Needs.{needs}
-use borrow.Author.Needs.{needs}
 use Rattle.distributor.proofs.block.row_at.Statement.{statement}
 use Rattle.distributor.proofs.block.row_at.Tie as tie
 
+part-result-end : tie.Need-part-result-end
+part-result-end c = omega (arith, c .pre)
+
 returns : tie.Need-returns
-returns c =
-    let a = c .before .before .args in
-    c .part .ensures ∙ sym (row-part (now (a .state)) (a .place) (omega arith))
+unfolding part
+returns c = sym (row-part (now (c .before .args .state)) (c .before .args .place) (omega (arith, c .before .pre)))
 
 pub row-at-spec : {M : Type 1} → statement M
-row-at-spec = tie.close (tie.spec (λ c. search needs) (λ c. search needs) (λ c. search needs) (λ c κs. search needs) returns)
+row-at-spec = tie.close (tie.spec (λ c. search needs) (λ c. search needs) (λ c. search needs) (λ c. search needs) (λ c. search needs) part-result-end returns)

@@ -23,32 +23,32 @@ use borrow.Author.Needs.{needs}
 use Rattle.distributor.proofs.writing.key_row.Statement.{statement}
 use Rattle.distributor.proofs.writing.key_row.Tie as tie
 
-put-part16-requires : tie.Need-put-part16-requires
-put-part16-requires c κs =
+put-part-requires : tie.Need-put-part-requires
+put-part-requires c κs =
     let a = c .before .before .before .before .before .before .before .before .before .before .before .before .args in
     let n : length (now (a .row)) ≡ rowLength = c .before .before .before .before .before .before .before .before .before .before .before .before .pre in
     (rw (c .before .before .before .before .before .before .before .before .before .key-places .ensures) (part-room (now (a .s)) _ (a .lengths .mki) (omega (arith, c .before .before .before .before .before .before .before .before .before .before .before .before .good, c .before .before .before .before .before .before .before .before .before .before .before .before .fits))), omega arith)
 
-put-part32-requires : tie.Need-put-part32-requires
-put-part32-requires c κs =
+put-part-requires-2 : tie.Need-put-part-requires-2
+put-part-requires-2 c κs =
     let a = c .before .before .before .before .before .before .before .before .before .before .before .before .before .before .before .before .args in
     let n : length (now (a .row)) ≡ rowLength = c .before .before .before .before .before .before .before .before .before .before .before .before .before .before .before .before .pre in
     (rw (c .before .before .before .before .before .before .before .before .before .before .before .before .before .key-places .ensures) (part-room (now (a .s)) _ (a .lengths .«client_key») (omega (arith, c .before .before .before .before .before .before .before .before .before .before .before .before .before .before .before .before .good, c .before .before .before .before .before .before .before .before .before .before .before .before .before .before .before .before .fits))), omega arith)
 
-put-part32-requires-2 : tie.Need-put-part32-requires-2
-put-part32-requires-2 c κs =
+put-part-requires-3 : tie.Need-put-part-requires-3
+put-part-requires-3 c κs =
     let a = c .before .before .before .before .before .before .before .before .before .before .before .before .before .before .before .before .before .before .before .before .args in
     let n : length (now (a .row)) ≡ rowLength = c .before .before .before .before .before .before .before .before .before .before .before .before .before .before .before .before .before .before .before .before .pre in
     (rw (c .before .before .before .before .before .before .before .before .before .before .before .before .before .before .before .before .before .key-places .ensures) (part-room (now (a .s)) _ (a .lengths .«server_key») (omega (arith, c .before .before .before .before .before .before .before .before .before .before .before .before .before .before .before .before .before .before .before .before .good, c .before .before .before .before .before .before .before .before .before .before .before .before .before .before .before .before .before .before .before .before .fits))), omega arith)
 
-put-part32-requires-3 : tie.Need-put-part32-requires-3
-put-part32-requires-3 c κs =
+put-part-requires-4 : tie.Need-put-part-requires-4
+put-part-requires-4 c κs =
     let a = c .before .before .before .before .before .before .before .before .before .before .before .before .before .before .before .before .before .before .before .before .before .before .before .before .args in
     let n : length (now (a .row)) ≡ rowLength = c .before .before .before .before .before .before .before .before .before .before .before .before .before .before .before .before .before .before .before .before .before .before .before .before .pre in
     (rw (c .before .before .before .before .before .before .before .before .before .before .before .before .before .before .before .before .before .before .before .before .before .key-places .ensures) (part-room (now (a .s)) _ (a .lengths .«client_salt») (omega (arith, c .before .before .before .before .before .before .before .before .before .before .before .before .before .before .before .before .before .before .before .before .before .before .before .before .good, c .before .before .before .before .before .before .before .before .before .before .before .before .before .before .before .before .before .before .before .before .before .before .before .before .fits))), omega arith)
 
-put-part32-requires-4 : tie.Need-put-part32-requires-4
-put-part32-requires-4 c κs =
+put-part-requires-5 : tie.Need-put-part-requires-5
+put-part-requires-5 c κs =
     let a = c .before .before .before .before .before .before .before .before .before .before .before .before .before .before .before .before .before .before .before .before .before .before .before .before .before .before .before .before .args in
     let n : length (now (a .row)) ≡ rowLength = c .before .before .before .before .before .before .before .before .before .before .before .before .before .before .before .before .before .before .before .before .before .before .before .before .before .before .before .before .pre in
     (rw (c .before .before .before .before .before .before .before .before .before .before .before .before .before .before .before .before .before .before .before .before .before .before .before .before .before .key-places .ensures) (part-room (now (a .s)) _ (a .lengths .«server_salt») (omega (arith, c .before .before .before .before .before .before .before .before .before .before .before .before .before .before .before .before .before .before .before .before .before .before .before .before .before .before .before .before .good, c .before .before .before .before .before .before .before .before .before .before .before .before .before .before .before .before .before .before .before .before .before .before .before .before .before .before .before .before .fits))), omega arith)
@@ -66,11 +66,11 @@ returns c =
     let w1 = wrote-keep w0 profileAt (omega arith) (omega arith) in
     let m1 : length ((2 ∷ []) ++ part o identifierAt profileAt) ≡ profileAt = sym (w1 .place) in
     let w2 = wrote-at (wrote-more (octets16 (a .profile)) w1 (omega arith) (c .before .before .before .before .before .before .before .before .before .before .before .before .before .before .before .before .before .before .before .before .before .before .put-number16 .ensures .0) (c .before .before .before .before .before .before .before .before .before .before .before .before .before .before .before .before .before .before .before .before .before .before .put-number16 .ensures .1)) mkiAt (rw (length-append, m1)) in
-    let w3 = wrote-over {r = clientKeyAt} (L.field mkiLimit (partIn s (k .mki))) w2 (omega (arith, field-length mkiLimit (partIn s (k .mki)))) (rw (c .before .before .before .before .before .before .before .before .before .before .before .before .before .before .before .before .before .before .before .before .before .before .before .before .before .before .before .before .key-places .ensures) at (c .before .before .before .before .before .before .before .before .before .before .before .before .before .before .before .before .before .before .put-part16 .ensures)) in
-    let w4 = wrote-over {r = serverKeyAt} (L.field keyLimit (partIn s (k .«client_key»))) w3 (omega (arith, field-length keyLimit (partIn s (k .«client_key»)))) (rw (c .before .before .before .before .before .before .before .before .before .before .before .before .before .before .before .before .before .before .before .before .before .before .before .before .before .before .before .before .key-places .ensures) at (c .before .before .before .before .before .before .before .before .before .before .before .before .before .before .put-part32 .ensures)) in
-    let w5 = wrote-over {r = clientSaltAt} (L.field keyLimit (partIn s (k .«server_key»))) w4 (omega (arith, field-length keyLimit (partIn s (k .«server_key»)))) (rw (c .before .before .before .before .before .before .before .before .before .before .before .before .before .before .before .before .before .before .before .before .before .before .before .before .before .before .before .before .key-places .ensures) at (c .before .before .before .before .before .before .before .before .before .before .put-part322 .ensures)) in
-    let w6 = wrote-over {r = serverSaltAt} (L.field saltLimit (partIn s (k .«client_salt»))) w5 (omega (arith, field-length saltLimit (partIn s (k .«client_salt»)))) (rw (c .before .before .before .before .before .before .before .before .before .before .before .before .before .before .before .before .before .before .before .before .before .before .before .before .before .before .before .before .key-places .ensures) at (c .before .before .before .before .before .before .put-part323 .ensures)) in
-    let w7 = wrote-over {r = rowLength} (L.field saltLimit (partIn s (k .«server_salt»))) w6 (omega (arith, field-length saltLimit (partIn s (k .«server_salt»)))) (rw (c .before .before .before .before .before .before .before .before .before .before .before .before .before .before .before .before .before .before .before .before .before .before .before .before .before .before .before .before .key-places .ensures) at (c .before .before .put-part324 .ensures)) in
+    let w3 = wrote-over {r = clientKeyAt} (L.field mkiLimit (partIn s (k .mki))) w2 (omega (arith, field-length mkiLimit (partIn s (k .mki)))) (rw (c .before .before .before .before .before .before .before .before .before .before .before .before .before .before .before .before .before .before .before .before .before .before .before .before .before .before .before .before .key-places .ensures) at (c .before .before .before .before .before .before .before .before .before .before .before .before .before .before .before .before .before .before .put-part .ensures)) in
+    let w4 = wrote-over {r = serverKeyAt} (L.field keyLimit (partIn s (k .«client_key»))) w3 (omega (arith, field-length keyLimit (partIn s (k .«client_key»)))) (rw (c .before .before .before .before .before .before .before .before .before .before .before .before .before .before .before .before .before .before .before .before .before .before .before .before .before .before .before .before .key-places .ensures) at (c .before .before .before .before .before .before .before .before .before .before .before .before .before .before .put-part2 .ensures)) in
+    let w5 = wrote-over {r = clientSaltAt} (L.field keyLimit (partIn s (k .«server_key»))) w4 (omega (arith, field-length keyLimit (partIn s (k .«server_key»)))) (rw (c .before .before .before .before .before .before .before .before .before .before .before .before .before .before .before .before .before .before .before .before .before .before .before .before .before .before .before .before .key-places .ensures) at (c .before .before .before .before .before .before .before .before .before .before .put-part3 .ensures)) in
+    let w6 = wrote-over {r = serverSaltAt} (L.field saltLimit (partIn s (k .«client_salt»))) w5 (omega (arith, field-length saltLimit (partIn s (k .«client_salt»)))) (rw (c .before .before .before .before .before .before .before .before .before .before .before .before .before .before .before .before .before .before .before .before .before .before .before .before .before .before .before .before .key-places .ensures) at (c .before .before .before .before .before .before .put-part4 .ensures)) in
+    let w7 = wrote-over {r = rowLength} (L.field saltLimit (partIn s (k .«server_salt»))) w6 (omega (arith, field-length saltLimit (partIn s (k .«server_salt»)))) (rw (c .before .before .before .before .before .before .before .before .before .before .before .before .before .before .before .before .before .before .before .before .before .before .before .before .before .before .before .before .key-places .ensures) at (c .before .before .put-part5 .ensures)) in
     wrote-all w7 (sym n) ∙ rw (octets-of-16 (a .profile) (omega (arith, c .before .before .before .before .before .before .before .before .before .before .before .before .before .before .before .before .before .before .before .before .before .before .before .before .before .before .before .before .before .before .before .fits)))
 
 pub key-row-spec : {M : Type 1} → statement M
@@ -80,10 +80,13 @@ key-row-spec =
     (λ c κs. search needs)
     (λ c κs. search needs)
     (λ c κs. search needs)
-    put-part16-requires
-    put-part32-requires
-    put-part32-requires-2
-    put-part32-requires-3
-    put-part32-requires-4
+    (λ c. search needs)
+    put-part-requires
+    put-part-requires-2
+    put-part-requires-3
+    (λ c. search needs)
+    put-part-requires-4
+    (λ c. search needs)
+    put-part-requires-5
     (λ c. search needs)
     returns)
