@@ -34,7 +34,7 @@ test:
 
 vectors:
 	@rt check vectors > /dev/null || { rt check vectors | tail -n 20; exit 1; }
-	@target/bin/vectors
+	@target/bin/vectors < crates/vectors/stdin
 
 check:
 	rt check

@@ -1,8 +1,9 @@
 /*
  * Linked into the branch by the tests (-Wl,--wrap=...): system calls that are interrupted, not ready, or done in part,
- * as any may be at any time. A quarter of all calls is interrupted; on a descriptor that does not wait, another quarter
- * finds nothing ready; reading and writing moves three octets at most. Which ones is chance, the same in every run. The
- * last line of the log says how many.
+ * as any may be at any time. A quarter of the calls is interrupted, and every connect that is not done at once; of the
+ * other reads, writes and recvmsgs on a descriptor that does not wait, a quarter finds nothing ready; read, write and
+ * getrandom move three octets at most. Which ones is chance, the same in every run. The last line of the log says how
+ * many.
  */
 #define _GNU_SOURCE
 #include <errno.h>

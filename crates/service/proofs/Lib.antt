@@ -6,3 +6,4 @@ pub mod SendingLaws
 pub mod WritingLaws
 pub mod TunnelLaws
 pub mod Served
+pub mod Numbers

@@ -3,3 +3,4 @@ pub mod Request
 pub mod Reply
 pub mod Sending
 pub mod Served
+pub mod Numbers

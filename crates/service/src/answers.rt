@@ -1,5 +1,6 @@
 // Answer frames, each written at the front of an output that has room for it; each function answers
 // the frame's length.
+use crate::limits::ANSWER;
 use crate::limits::HEAD;
 use distributor::Sent;
 ghost use mathlib.Core.Path.{_≡_};
@@ -7,7 +8,7 @@ ghost use mathlib.Core.List.{[], _∷_, _++_};
 ghost use Prim.Native.Nat.{_+_, _≤_};
 ghost use lib.ListN.{length};
 ghost use Rattle.octets.specs.Number.{octets16};
-ghost use Rattle.octets.specs.Write.{over};
+ghost use Rattle.octets.specs.Write.{over, put, putEnd};
 ghost use Rattle.rules.specs.Answer as Answer;
 ghost use Rattle.rules.specs.Layout.{octetsOf32};
 ghost use Rattle.service.specs.Limits.{answerLimit, endpointLength, headLength};
@@ -42,16 +43,17 @@ pub const TOO_LONG: u8 = 129;
 
 pub const MISSHAPEN: u8 = 130;
 
+// The length of an answer that is a kind and one number.
+pub(crate) const NUMBERED: usize = 3;
+
 // An answer that is its kind alone.
-pub(crate) fn plain(out: &mut [u8], kind: u8) -> usize
-    requires { ⌜ length (now out) ≡ answerLimit ⌝ }
+pub(crate) fn plain(out: &mut [u8; ANSWER], kind: u8) -> usize
     ensures { λ r. ⌜ Spec.Replies (Spec.frameOf (kind ∷ [])) (now (out .entry)) (now (out .exit)) r ⌝ }
 {
     octets::put_octets(out, 0, &[0, 1, kind])
 }
 
-pub(crate) fn refused(out: &mut [u8], number: u8, taken: usize) -> usize
-    requires { ⌜ length (now out) ≡ answerLimit ⌝ }
+pub(crate) fn refused(out: &mut [u8; ANSWER], number: u8, taken: usize) -> usize
     ensures { λ r. ⌜ Spec.Replies (Spec.frameOf (Spec.answerOctets [] (Answer.refused number taken))) (now (out .entry)) (now (out .exit)) r ⌝ }
 {
     let high = (taken / 256 % 256) as u8;
@@ -59,18 +61,21 @@ pub(crate) fn refused(out: &mut [u8], number: u8, taken: usize) -> usize
     octets::put_octets(out, 0, &[0, 4, REFUSED, number, high, low])
 }
 
-// A kind with one number: a place, or octets taken.
-pub(crate) fn numbered(out: &mut [u8], kind: u8, n: usize) -> usize
-    requires { ⌜ length (now out) ≡ answerLimit ⌝ }
-    ensures { λ r. ⌜ Spec.Replies (Spec.frameOf (kind ∷ octets16 n)) (now (out .entry)) (now (out .exit)) r ⌝ }
+// The length, a kind and one number: octets taken, or a place.
+pub(crate) fn numbered(out: &mut [u8; ANSWER], length: usize, kind: u8, n: usize) -> usize
+    ensures { λ r. ⌜ Spec.Replies (octets16 length ++ kind ∷ octets16 n) (now (out .entry)) (now (out .exit)) r ⌝ }
 {
-    let high = (n / 256 % 256) as u8;
-    let low = (n % 256) as u8;
-    octets::put_octets(out, 0, &[0, 3, kind, high, low])
+    let front = [
+        (length / 256 % 256) as u8,
+        (length % 256) as u8,
+        kind,
+        (n / 256 % 256) as u8,
+        (n % 256) as u8,
+    ];
+    octets::put_octets(out, 0, &front)
 }
 
-pub(crate) fn version(out: &mut [u8], number: u8, taken: usize) -> usize
-    requires { ⌜ length (now out) ≡ answerLimit ⌝ }
+pub(crate) fn version(out: &mut [u8; ANSWER], number: u8, taken: usize) -> usize
     ensures { λ r. ⌜ Spec.Replies (Spec.frameOf (Spec.answerOctets [] (Answer.version number taken))) (now (out .entry)) (now (out .exit)) r ⌝ }
 {
     let high = (taken / 256 % 256) as u8;
@@ -78,25 +83,26 @@ pub(crate) fn version(out: &mut [u8], number: u8, taken: usize) -> usize
     octets::put_octets(out, 0, &[0, 4, VERSION, high, low, number])
 }
 
-// Octets for an endpoint.
-pub(crate) fn delivery(out: &mut [u8], endpoint: u32, dtls: &[u8], taken: usize) -> usize
-    requires { ⌜ (length (now out) ≡ answerLimit) × (headLength + 2 + endpointLength + length (now dtls) ≤ answerLimit) ⌝ }
-    ensures { λ r. ⌜ Spec.Replies (Spec.frameOf ((7 ∷ octets16 taken) ++ octetsOf32 endpoint ++ now (dtls .entry))) (now (out .entry)) (now (out .exit)) r ⌝ }
+pub(crate) fn put_endpoint(out: &mut [u8], at: usize, endpoint: u32) -> usize
+    ensures { λ r. ⌜ (r ≡ putEnd (now (out .entry)) at (octetsOf32 endpoint)) × (now (out .exit) ≡ put (now (out .entry)) at (octetsOf32 endpoint)) ⌝ }
 {
-    let n = 7 + dtls.len();
-    let front = [
-        (n / 256 % 256) as u8,
-        (n % 256) as u8,
-        DELIVERY,
-        (taken / 256 % 256) as u8,
-        (taken % 256) as u8,
+    let number = [
         (endpoint / 16777216) as u8,
         (endpoint / 65536 % 256) as u8,
         (endpoint / 256 % 256) as u8,
         (endpoint % 256) as u8,
     ];
-    let at = octets::put_octets(out, 0, &front);
-    octets::put_octets(out, at, dtls)
+    octets::put_octets(out, at, &number)
+}
+
+// Octets for an endpoint.
+pub(crate) fn delivery(out: &mut [u8; ANSWER], endpoint: u32, dtls: &[u8], taken: usize) -> usize
+    requires { ⌜ headLength + 2 + endpointLength + length (now dtls) ≤ answerLimit ⌝ }
+    ensures { λ r. ⌜ Spec.Replies (Spec.frameOf ((7 ∷ octets16 taken) ++ octetsOf32 endpoint ++ now (dtls .entry))) (now (out .entry)) (now (out .exit)) r ⌝ }
+{
+    let a = numbered(out, 7 + dtls.len(), DELIVERY, taken);
+    let b = put_endpoint(out, a, endpoint);
+    octets::put_octets(out, b, dtls)
 }
 
 // The head of an answer whose message stands behind it already.
@@ -118,6 +124,6 @@ pub(crate) fn sent(out: &mut [u8], what: Sent) -> usize
 {
     match what {
         Sent::Written { count } => written(out, count),
-        Sent::Refused { number } => refused(out, number, 0),
+        Sent::Refused { number } => octets::put_octets(out, 0, &[0, 4, REFUSED, number, 0, 0]),
     }
 }

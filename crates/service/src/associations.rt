@@ -1,20 +1,17 @@
 // Open, End and Look.
 use crate::answers;
 use crate::kind::Kind;
+use crate::limits::ANSWER;
 use crate::limits::ENDPOINT;
 use crate::record;
 use distributor::BLOCK;
 use distributor::Ended;
 use distributor::Found;
 use distributor::Opened;
-ghost use mathlib.Core.Path.{_≡_};
-ghost use lib.ListN.{length};
-ghost use Rattle.service.specs.Limits.{answerLimit};
 ghost use Rattle.service.specs.Request as Request;
 ghost use Rattle.service.specs.Reply as Spec;
 
-pub(crate) fn open(state: &mut [u8; BLOCK], body: &[u8], out: &mut [u8]) -> usize
-    requires { ⌜ length (now out) ≡ answerLimit ⌝ }
+pub(crate) fn open(state: &mut [u8; BLOCK], body: &[u8], out: &mut [u8; ANSWER]) -> usize
     ensures { λ r. ⌜ Spec.Serves (Request.requestBy Kind.Open (now (body .entry))) (now (state .entry)) (now (state .exit)) (now (out .entry)) (now (out .exit)) r ⌝ }
 {
     if body.len() < ENDPOINT {
@@ -23,13 +20,12 @@ pub(crate) fn open(state: &mut [u8; BLOCK], body: &[u8], out: &mut [u8]) -> usiz
     let endpoint = octets::number32(body, 0);
     let identifier = &body[ENDPOINT..];
     match distributor::open(state, identifier, endpoint) {
-        Opened::At { place } => answers::numbered(out, answers::PLACED, place),
+        Opened::At { place } => answers::numbered(out, answers::NUMBERED, answers::PLACED, place),
         Opened::Refused { number } => answers::refused(out, number, 0),
     }
 }
 
-pub(crate) fn end(state: &mut [u8; BLOCK], body: &[u8], out: &mut [u8]) -> usize
-    requires { ⌜ length (now out) ≡ answerLimit ⌝ }
+pub(crate) fn end(state: &mut [u8; BLOCK], body: &[u8], out: &mut [u8; ANSWER]) -> usize
     ensures { λ r. ⌜ Spec.Serves (Request.requestBy Kind.End (now (body .entry))) (now (state .entry)) (now (state .exit)) (now (out .entry)) (now (out .exit)) r ⌝ }
 {
     if body.len() != 0 {
@@ -41,8 +37,7 @@ pub(crate) fn end(state: &mut [u8; BLOCK], body: &[u8], out: &mut [u8]) -> usize
     }
 }
 
-pub(crate) fn look(state: &[u8; BLOCK], body: &[u8], out: &mut [u8]) -> usize
-    requires { ⌜ length (now out) ≡ answerLimit ⌝ }
+pub(crate) fn look(state: &[u8; BLOCK], body: &[u8], out: &mut [u8; ANSWER]) -> usize
     ensures { λ r. ⌜ Spec.Replies (Spec.reply (now (state .entry)) (Request.requestBy Kind.Look (now (body .entry)))) (now (out .entry)) (now (out .exit)) r ⌝ }
 {
     if body.len() != ENDPOINT {
@@ -50,9 +45,8 @@ pub(crate) fn look(state: &[u8; BLOCK], body: &[u8], out: &mut [u8]) -> usize
     }
     let looked = distributor::look(state, octets::number32(body, 0));
     let answer = looked.answer;
-    let r = looked.record;
     match answer {
-        Found::Here => record::found(out, r),
+        Found::Here => record::found(out, looked.record),
         Found::Refused { number } => answers::refused(out, number, 0),
     }
 }

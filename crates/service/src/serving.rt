@@ -8,16 +8,15 @@ use crate::limits::FRAME_LIMIT;
 use crate::receiving;
 use crate::writing;
 use distributor::BLOCK;
-ghost use mathlib.Core.Path.{_≡_};
 ghost use Prim.Native.Nat.{_≤_};
 ghost use lib.ListN.{length};
-ghost use Rattle.service.specs.Limits.{answerLimit, room};
+ghost use Rattle.service.specs.Limits.{room};
 ghost use Rattle.service.specs.Request as Request;
 ghost use Rattle.service.specs.Reply as Spec;
 
 // By the kind, and what is behind the kind octet.
-fn serve_kind(state: &mut [u8; BLOCK], kind: Kind, body: &[u8], out: &mut [u8]) -> usize
-    requires { ⌜ (length (now out) ≡ answerLimit) × (length (now body) ≤ room) ⌝ }
+fn serve_kind(state: &mut [u8; BLOCK], kind: Kind, body: &[u8], out: &mut [u8; ANSWER]) -> usize
+    requires { ⌜ length (now body) ≤ room ⌝ }
     ensures { λ r. ⌜ Spec.Serves (Request.requestBy kind (now (body .entry))) (now (state .entry)) (now (state .exit)) (now (out .entry)) (now (out .exit)) r ⌝ }
 {
     match kind {
@@ -32,8 +31,9 @@ fn serve_kind(state: &mut [u8; BLOCK], kind: Kind, body: &[u8], out: &mut [u8]) 
     }
 }
 
-fn serve_in(state: &mut [u8; BLOCK], frame: &[u8], out: &mut [u8]) -> usize
-    requires { ⌜ length (now out) ≡ answerLimit ⌝ }
+// Serves the request that a frame stands for, and answers the length of the answer frame, which
+// stands at the front of the output.
+pub fn serve_one(state: &mut [u8; BLOCK], frame: &[u8], out: &mut [u8; ANSWER]) -> usize
     ensures { λ r. ⌜ Spec.Serves (Request.requestOf (now (frame .entry))) (now (state .entry)) (now (state .exit)) (now (out .entry)) (now (out .exit)) r ⌝ }
 {
     if FRAME_LIMIT < frame.len() {
@@ -44,14 +44,6 @@ fn serve_in(state: &mut [u8; BLOCK], frame: &[u8], out: &mut [u8]) -> usize
     }
     let kind = kind_of(frame[0]);
     serve_kind(state, kind, &frame[1..], out)
-}
-
-// Serves the request that a frame stands for, and answers the length of the answer frame, which
-// stands at the front of the output.
-pub fn serve_one(state: &mut [u8; BLOCK], frame: &[u8], out: &mut [u8; ANSWER]) -> usize
-    ensures { λ r. ⌜ Spec.Serves (Request.requestOf (now (frame .entry))) (now (state .entry)) (now (state .exit)) (now (out .entry)) (now (out .exit)) r ⌝ }
-{
-    serve_in(state, frame, out)
 }
 
 // The answer to a frame above the limit, for a caller that has skipped it.

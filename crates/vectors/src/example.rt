@@ -1,36 +1,23 @@
-// The messages that a tunnel starts with: P1 and P2, and the example of RFC 9185, section 7.
+// The example of RFC 9185, section 7, compared whole with what is written for a list.
+use crate::cases;
+use crate::outputs::FILL;
 use crate::print;
-use crate::writes;
-use crate::writes::FILL;
+use crate::words;
+use crate::words::say;
 
-pub fn cases() {
-    worked(1, b"\x00\x09\x00\x0A");
-    worked(2, b"\x00\x0A");
-    section_7();
-}
-
-fn worked(number: u64, list: &[u8]) {
-    print::text(b"P");
-    print::decimal(number);
-    print::part(b"list", list);
-    let mut out = [FILL; 12];
-    let answer = message::write_supported_profiles(0, list, &mut out);
-    writes::outcome(answer, &out);
-}
-
-// Compared whole with what is written for both profiles.
-fn section_7() {
+pub fn case(line: &[u8], list: &[u8]) {
+    cases::echo(line);
     let mut out = [FILL; 10];
-    message::write_supported_profiles(0, b"\x00\x09\x00\x0A", &mut out);
+    message::write_supported_profiles(0, list, &mut out);
     compare(&message::two_profiles(), &out);
 }
 
 fn compare(example: &[u8], written: &[u8]) {
-    print::text(b"section 7 ");
+    say(words::SPACE);
     print::octet_row(example);
     if octets::same(example, written) {
-        print::text(b": same\n");
+        say(words::SAME);
     } else {
-        print::text(b": different\n");
+        say(words::DIFFERENT);
     }
 }

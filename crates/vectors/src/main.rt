@@ -1,41 +1,29 @@
-// Worked octets and limits of document 01, run through the libraries: one line for each case, with
-// what the library answered.
-mod associations;
-mod bodies;
-mod calls;
+// Worked octets and limits of document 01, run through the libraries. Standard input holds the cases,
+// one in a line; each is written out again with what the library answered.
+mod cases;
 mod example;
-mod fields;
-mod keying;
-mod least_keys;
-mod limits;
 mod messages;
+mod numbers;
 mod outcomes;
+mod outputs;
+mod pieces;
 mod print;
 mod profiles;
 mod reading;
 mod records;
-mod short_tags;
+mod rows;
+mod sending;
 mod sorting;
+mod table;
 mod tags;
-mod traffic;
-mod tunnels;
-mod types;
+mod words;
 mod writes;
 mod writing;
 
+use libc::STDIN_FILENO;
+
 fn main() {
-    sorting::cases();
-    short_tags::cases();
-    limits::cases();
-    reading::cases();
-    types::cases();
-    least_keys::cases();
-    bodies::cases();
-    example::cases();
-    writing::cases();
-    profiles::cases();
-    tunnels::cases();
-    associations::cases();
-    traffic::cases();
-    keying::cases();
+    let mut space = io::large_buffer();
+    let count = io::read_full(STDIN_FILENO, &mut space);
+    cases::run(octets::part(&space, 0, count));
 }

@@ -1,4 +1,6 @@
 // The pieces that lines are made of, written to standard output.
+use crate::words;
+use crate::words::say;
 use libc::STDOUT_FILENO;
 
 // The longest part whose octets are written out; of a longer one a reader wants the length.
@@ -8,22 +10,18 @@ pub fn text(s: &[u8]) {
     io::write_all(STDOUT_FILENO, s);
 }
 
-// Between what was asked and the answer.
-pub fn colon() {
-    text(b": ");
+pub fn decimal(n: usize) {
+    io::print_decimal(STDOUT_FILENO, n as u64);
 }
 
-pub fn end_line() {
-    text(b"\n");
-}
-
-pub fn decimal(n: u64) {
-    io::print_decimal(STDOUT_FILENO, n);
+// A number behind a word.
+pub fn count(name: usize, n: usize) {
+    say(name);
+    decimal(n);
 }
 
 pub fn refusal(number: u8) {
-    text(b"refusal ");
-    decimal(number as u64);
+    count(words::REFUSAL, number as usize);
 }
 
 // In capitals, as the worked octets are written.
@@ -35,59 +33,48 @@ fn octet(x: u8) {
     text(&[digit(x / 16), digit(x % 16)]);
 }
 
-pub fn number16(n: u16) {
+fn two_octets(n: u16) {
     octet((n / 256) as u8);
     octet((n % 256) as u8);
+}
+
+// A number of two octets behind a word.
+pub fn number16(name: usize, n: u16) {
+    say(name);
+    two_octets(n);
 }
 
 pub fn octet_row(s: &[u8]) {
     for i in 0..s.len() {
         if 0 < i {
-            text(b" ");
+            say(words::SPACE);
         }
         octet(s[i]);
     }
 }
 
-pub fn bracketed(s: &[u8]) {
-    text(b"[");
+fn bracketed(s: &[u8]) {
+    say(words::OPENED);
     octet_row(s);
-    text(b"]");
+    say(words::SHUT);
 }
 
-// What a number or a part stands behind.
-fn named(name: &[u8]) {
-    text(b" ");
-    text(name);
-    text(b"=");
-}
-
-// A number behind a space.
-pub fn number(n: usize) {
-    text(b" ");
-    decimal(n as u64);
-}
-
-pub fn count(name: &[u8], n: usize) {
-    named(name);
-    decimal(n as u64);
-}
-
-pub fn part(name: &[u8], s: &[u8]) {
-    named(name);
+// A part behind a word.
+pub fn part(name: usize, s: &[u8]) {
+    say(name);
     if s.len() <= WRITTEN_OUT {
         bracketed(s);
     } else {
-        decimal(s.len() as u64);
-        text(b" octets");
+        decimal(s.len());
+        say(words::OCTETS);
     }
 }
 
 // The end of a line.
 pub fn yes_or_no(answer: bool) {
     if answer {
-        text(b": yes\n");
+        say(words::YES);
     } else {
-        text(b": no\n");
+        say(words::NO);
     }
 }

@@ -1,62 +1,50 @@
 // Packets sorted by their first octet.
+use crate::cases;
 use crate::print;
+use crate::words;
+use crate::words::say;
 use demux::Kind;
 use demux::Sorted;
 
-pub fn cases() {
-    worked();
-    print::text(b"sort empty ");
-    sorted(b"");
-    every_first();
+pub fn case(line: &[u8], given: &[u8]) {
+    match cases::call(line) {
+        b'e' => every_first(),
+        _ => packet(line, given),
+    }
 }
 
-// P10: both sides of each limit between kinds.
-fn worked() {
-    edge(1);
-    edge(2);
-    edge(19);
-    edge(20);
-    edge(63);
-    edge(64);
-    edge(127);
-    edge(128);
-    edge(191);
-    edge(192);
-}
-
-fn edge(octet: u8) {
-    first(b"P10", octet);
+fn packet(line: &[u8], packet: &[u8]) {
+    cases::echo(line);
+    sorted(packet);
 }
 
 fn every_first() {
     for octet in 0..=255u8 {
-        first(b"sort", octet);
+        first(octet);
     }
 }
 
 // A packet of one octet, since no other is looked at.
-fn first(label: &[u8], octet: u8) {
-    print::text(label);
-    print::text(b" first=");
-    print::decimal(octet as u64);
-    print::text(b" ");
+fn first(octet: u8) {
+    print::count(words::SORT_FIRST, octet as usize);
     sorted(&[octet]);
 }
 
 // The end of a line: how the packet was sorted.
 fn sorted(packet: &[u8]) {
+    say(words::SPACE);
     match demux::sort(packet) {
         Sorted::Empty => print::refusal(octets::refusal::EMPTY_PACKET),
         Sorted::Packet(kind) => named(kind),
     }
-    print::end_line();
+    say(words::END_LINE);
 }
 
 fn named(kind: Kind) {
     match kind {
-        Kind::Stun => print::text(b"STUN"),
-        Kind::Dtls => print::text(b"DTLS"),
-        Kind::Rtp => print::text(b"RTP"),
-        Kind::Other => print::text(b"Other"),
+        Kind::Stun => say(words::STUN),
+        Kind::Dtls => say(words::DTLS),
+        Kind::Rtp => say(words::RTP),
+        Kind::Other => say(words::OTHER),
     }
 }

@@ -1,13 +1,21 @@
-// What splitting a packet from its EKT tag answers, in words.
+// Packets split from their EKT tags.
+use crate::cases;
 use crate::print;
+use crate::words;
+use crate::words::say;
 use ekt::Tag;
 
+pub fn case(line: &[u8], given: &[u8]) {
+    cases::echo(line);
+    split(given);
+}
+
 // The end of a line: the tag, and the parts that are lent from the packet.
-pub fn split(packet: &[u8]) {
-    print::colon();
+fn split(packet: &[u8]) {
+    say(words::COLON);
     match ekt::split(packet) {
         Tag::NoTag => print::refusal(octets::refusal::NO_TAG),
-        Tag::Short { start: _ } => short(packet),
+        Tag::Short { start: _ } => front(words::SHORT, packet),
         Tag::Full {
             spi,
             epoch,
@@ -20,27 +28,23 @@ pub fn split(packet: &[u8]) {
             end: _,
         } => extension(packet, message_type),
     }
-    print::end_line();
+    say(words::END_LINE);
 }
 
-fn short(packet: &[u8]) {
-    print::text(b"Short");
-    print::part(b"front", ekt::front(packet));
+fn front(name: usize, packet: &[u8]) {
+    say(name);
+    print::part(words::FRONT, ekt::front(packet));
 }
 
 fn full(packet: &[u8], spi: u16, epoch: u16) {
-    print::text(b"Full");
-    print::part(b"front", ekt::front(packet));
-    print::part(b"ciphertext", ekt::ciphertext(packet));
-    print::text(b" spi=");
-    print::number16(spi);
-    print::text(b" epoch=");
-    print::number16(epoch);
+    front(words::FULL, packet);
+    print::part(words::CIPHERTEXT, ekt::ciphertext(packet));
+    print::number16(words::SPI, spi);
+    print::number16(words::EPOCH, epoch);
 }
 
 fn extension(packet: &[u8], message_type: u8) {
-    print::text(b"Extension ");
-    print::decimal(message_type as u64);
-    print::part(b"front", ekt::front(packet));
-    print::part(b"data", ekt::extension_data(packet));
+    print::count(words::EXTENSION, message_type as usize);
+    print::part(words::FRONT, ekt::front(packet));
+    print::part(words::DATA, ekt::extension_data(packet));
 }

@@ -1,86 +1,92 @@
-// Messages written at the limits of outputs and of fields.
-use crate::fields;
+// Messages written to an output of a given length. The octets of their fields stand one behind the
+// other in the row; each field has octets of its own, so that a swap is seen.
+use crate::cases;
+use crate::example;
+use crate::numbers;
+use crate::outputs;
+use crate::outputs::FILL;
+use crate::outputs::ROOM;
+use crate::writes;
+use message::Write;
 
-pub fn cases() {
-    rooms();
-    dtls();
-    profile_lists();
-    identifiers(0);
-    identifiers(15);
-    identifiers(17);
-    keys();
-    order();
+pub fn case(line: &[u8], given: &[u8]) {
+    match cases::call(line) {
+        b's' => example::case(line, given),
+        _ => output(line, given),
+    }
 }
 
-// Each message in an output that is one octet too short, in one that is just long enough, and in one
-// of two octets more.
-fn rooms() {
-    fields::supported_profiles(7, 4, 9);
-    fields::supported_profiles(7, 4, 10);
-    fields::supported_profiles(7, 4, 12);
-    fields::unsupported_version(9, 3);
-    fields::unsupported_version(9, 4);
-    fields::unsupported_version(9, 6);
-    fields::media_keys(16, 3, 4, 5, 2, 3, 42);
-    fields::media_keys(16, 3, 4, 5, 2, 3, 43);
-    fields::media_keys(16, 3, 4, 5, 2, 3, 45);
-    fields::tunneled_dtls(16, 3, 23);
-    fields::tunneled_dtls(16, 3, 24);
-    fields::tunneled_dtls(16, 3, 26);
-    fields::endpoint_disconnect(16, 18);
-    fields::endpoint_disconnect(16, 19);
-    fields::endpoint_disconnect(16, 21);
+fn output(line: &[u8], given: &[u8]) {
+    cases::echo(line);
+    let mut space = [FILL; ROOM];
+    let out = outputs::first(&mut space, numbers::number(line, 0));
+    let answer = write(line, given, out);
+    writes::outcome(answer, out);
 }
 
-// Both sides of the least, of the most, and of what two length octets can say.
-fn dtls() {
-    fields::tunneled_dtls(16, 0, 4099);
-    fields::tunneled_dtls(16, 1, 4099);
-    fields::tunneled_dtls(16, 4078, 4099);
-    fields::tunneled_dtls(16, 4079, 4099);
-    fields::tunneled_dtls(16, 65535, 4099);
-    fields::tunneled_dtls(16, 65536, 4099);
+fn write(line: &[u8], given: &[u8], out: &mut [u8]) -> Write {
+    match cases::call(line) {
+        b'k' => media_keys(line, given, out),
+        b'd' => tunneled_dtls(line, given, out),
+        _ => write_short(cases::call(line), given, out),
+    }
 }
 
-fn profile_lists() {
-    fields::supported_profiles(0, 0, 4099);
-    fields::supported_profiles(0, 1, 4099);
-    fields::supported_profiles(0, 2, 4099);
-    fields::supported_profiles(0, 3, 4099);
-    fields::supported_profiles(0, 4092, 4099);
-    fields::supported_profiles(0, 4093, 4099);
-    fields::supported_profiles(0, 4094, 4099);
-    fields::supported_profiles(0, 65534, 4099);
-    fields::supported_profiles(0, 65536, 4099);
+fn write_short(call: u8, given: &[u8], out: &mut [u8]) -> Write {
+    match call {
+        b'l' => supported_profiles(given, out),
+        b'v' => message::write_unsupported_version(octets::octet(given, 0), out),
+        _ => message::write_endpoint_disconnect(given, out),
+    }
 }
 
-// An identifier of another length, in each message that has one.
-fn identifiers(length: usize) {
-    fields::media_keys(length, 0, 1, 1, 1, 1, 64);
-    fields::tunneled_dtls(length, 1, 64);
-    fields::endpoint_disconnect(length, 64);
+// The version stands before the list.
+fn supported_profiles(given: &[u8], out: &mut [u8]) -> Write {
+    let list = octets::part(given, 1, given.len());
+    message::write_supported_profiles(octets::octet(given, 0), list, out)
 }
 
-// Keys of 16, salts of 12, no MKI: a body of A + 63; then the most; then each field at its limits.
-fn keys() {
-    fields::media_keys(16, 0, 16, 16, 12, 12, 1301);
-    fields::media_keys(16, 255, 255, 255, 255, 255, 1301);
-    fields::media_keys(16, 255, 1, 1, 1, 1, 1301);
-    fields::media_keys(16, 256, 1, 1, 1, 1, 1301);
-    fields::media_keys(16, 0, 0, 1, 1, 1, 1301);
-    fields::media_keys(16, 0, 256, 1, 1, 1, 1301);
-    fields::media_keys(16, 0, 1, 0, 1, 1, 1301);
-    fields::media_keys(16, 0, 1, 256, 1, 1, 1301);
-    fields::media_keys(16, 0, 1, 1, 0, 1, 1301);
-    fields::media_keys(16, 0, 1, 1, 256, 1, 1301);
-    fields::media_keys(16, 0, 1, 1, 1, 0, 1301);
-    fields::media_keys(16, 0, 1, 1, 1, 256, 1301);
+fn tunneled_dtls(line: &[u8], given: &[u8], out: &mut [u8]) -> Write {
+    let end = numbers::number(line, 2);
+    let identifier = octets::part(given, 0, end);
+    message::write_tunneled_dtls(identifier, octets::part(given, end, given.len()), out)
 }
 
-// Where several refusals apply, the earliest of 20, 5, 2 and 13.
-fn order() {
-    fields::tunneled_dtls(15, 0, 0);
-    fields::tunneled_dtls(16, 0, 0);
-    fields::tunneled_dtls(16, 4079, 0);
-    fields::tunneled_dtls(16, 4078, 0);
+fn media_keys(line: &[u8], given: &[u8], out: &mut [u8]) -> Write {
+    let identifier = numbers::length(line, 6) as usize;
+    let mki = identifier + numbers::length(line, 5) as usize;
+    let client_key = mki + numbers::length(line, 4) as usize;
+    let server_key = client_key + numbers::length(line, 3) as usize;
+    let client_salt = server_key + numbers::length(line, 2) as usize;
+    write_keys(
+        given,
+        identifier,
+        mki,
+        client_key,
+        server_key,
+        client_salt,
+        out,
+    )
+}
+
+// Each field by its end.
+fn write_keys(
+    given: &[u8],
+    identifier: usize,
+    mki: usize,
+    client_key: usize,
+    server_key: usize,
+    client_salt: usize,
+    out: &mut [u8],
+) -> Write {
+    message::write_media_keys(
+        octets::part(given, 0, identifier),
+        0x0102,
+        octets::part(given, identifier, mki),
+        octets::part(given, mki, client_key),
+        octets::part(given, client_key, server_key),
+        octets::part(given, server_key, client_salt),
+        octets::part(given, client_salt, given.len()),
+        out,
+    )
 }

@@ -5,31 +5,16 @@ use native.Mathlib.Omega.{arith}
 use Prim.Native.Nat.{_+_}
 use denote.Ref.{now}
 use lib.ListN.{length}
-use Rattle.service.proofs.FrameLaws.{in-two, framed}
+use Rattle.service.proofs.FrameLaws.{in-three, framed}
 use borrow.Author.Needs.{needs}
 use Rattle.service.proofs.answers.delivery.Statement.{statement}
 use Rattle.service.proofs.answers.delivery.Tie as tie
 
 returns : tie.Need-returns
 returns c =
-    let a = c .before .before .before .before .before .before .before .before .before .before .before .args in
-    framed (now (a .out)) ((7 ∷ octets16 (a .taken)) ++ octetsOf32 (a .endpoint) ++ now (a .dtls)) (7 + length (now (a .dtls))) (omega arith) (in-two (now (a .out)) _ (now (a .dtls)) (omega arith) (c .before .before .before .before .before .before .put-octets .ensures) (c .before .before .put-octets2 .ensures))
+    let a = c .before .before .before .before .before .before .before .args in
+    framed (now (a .out)) ((7 ∷ octets16 (a .taken)) ++ octetsOf32 (a .endpoint) ++ now (a .dtls)) (7 + length (now (a .dtls))) (omega arith)
+    (in-three (now (a .out)) (octets16 (7 + length (now (a .dtls))) ++ 7 ∷ octets16 (a .taken)) (octetsOf32 (a .endpoint)) (now (a .dtls)) (omega arith) (omega arith) (c .before .before .before .before .numbered .ensures) (c .before .before .put-endpoint .ensures) (c .put-octets .ensures))
 
 pub delivery-spec : {M : Type 1} → statement M
-delivery-spec =
-    tie.close
-    (tie.spec
-    (λ c. search needs)
-    (λ c. search needs)
-    (λ c. search needs)
-    (λ c. search needs)
-    (λ c. search needs)
-    (λ c. search needs)
-    (λ c. search needs)
-    (λ c. search needs)
-    (λ c. search needs)
-    (λ c. search needs)
-    (λ c κs. search needs)
-    (λ c κs. search needs)
-    (λ c. search needs)
-    returns)
+delivery-spec = tie.close (tie.spec (λ c. search needs) (λ c κs. search needs) (λ c κs. search needs) (λ c κs. search needs) returns)

@@ -5,15 +5,7 @@ use Rattle.service.proofs.answers.numbered.Statement.{statement}
 use Rattle.service.proofs.answers.numbered.Tie as tie
 
 returns : tie.Need-returns
-returns c = in-one _ _ (omega arith) (c .before .before .put-octets .ensures)
+returns c = in-one _ _ (omega arith) (c .put-octets .ensures)
 
 pub numbered-spec : {M : Type 1} → statement M
-numbered-spec =
-    tie.close
-    (tie.spec
-    (λ c. search needs)
-    (λ c. search needs)
-    (λ c. search needs)
-    (λ c κs. search needs)
-    (λ c. search needs)
-    returns)
+numbered-spec = tie.close (tie.spec (λ c. search needs) (λ c. search needs) (λ c. search needs) (λ c. search needs) (λ c. search needs) (λ c κs. search needs) returns)

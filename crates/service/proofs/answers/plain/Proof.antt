@@ -5,8 +5,7 @@ use Rattle.service.proofs.answers.plain.Statement.{statement}
 use Rattle.service.proofs.answers.plain.Tie as tie
 
 returns : tie.Need-returns
-returns c = in-one _ _ (omega arith) (c .before .before .put-octets .ensures)
+returns c = in-one _ _ (omega arith) (c .put-octets .ensures)
 
 pub plain-spec : {M : Type 1} → statement M
-plain-spec =
-    tie.close (tie.spec (λ c. search needs) (λ c κs. search needs) (λ c. search needs) returns)
+plain-spec = tie.close (tie.spec (λ c. search needs) (λ c κs. search needs) returns)

@@ -1,48 +1,25 @@
 use mathlib.Core.Path.{refl}
 use Prim.Native.Nat.{_-_}
+use denote.Ref.{now}
 use lib.ListN.{length, take, drop}
 use Rattle.rules.specs.Call as Call
 use Rattle.service.specs.Limits.{endpointLength, room}
 use Rattle.service.specs.Request.{call, misshapen}
 use Rattle.service.proofs.RequestLaws.{same-reply, packet-short, packet-request}
-use denote.Ref.{now}
-use Rattle.service.proofs.WritingLaws.{packet-fits, packet-replied}
 use borrow.Author.Needs.{needs}
 use Rattle.service.proofs.writing.booth_packet.Statement.{statement}
 use Rattle.service.proofs.writing.booth_packet.Tie as tie
 
 returns : tie.Need-returns
 returns c =
-    let a = c .before .before .before .before .before .before .before .args in
-    same-reply misshapen (now (a .state)) (now (a .out)) (packet-short (now (a .body)) (c .before .before .before .before .if1 .taken)) (c .before .before .plain .ensures)
-
-sent-requires : tie.Need-sent-requires
-sent-requires c κs =
-    let a = c .before .before .before .before .before .before .before .before .before .before .args in
-    (search needs, packet-fits (now (a .state)) (now (a .out)) _ (c .before .before .before .before .before .before .before .before .before .before .pre) (c .before .before .before .booth-packet .result) _ _ (c .before .before .before .booth-packet .ensures) (search needs))
+    let a = c .before .before .before .before .args in
+    same-reply misshapen (now (a .state)) (now (a .out)) (packet-short (now (a .body)) (c .before .before .if1 .taken)) (c .plain .ensures)
 
 returns-2 : tie.Need-returns-2
 returns-2 c =
-    let a = c .before .before .before .before .before .before .before .before .before .before .before .before .before .args in
+    let a = c .before .before .before .before .before .before .args in
     let packet = take (length (now (a .body)) - endpointLength) (drop endpointLength (now (a .body))) in
-    same-reply (call (Call.boothPacket (c .before .before .before .before .before .before .before .before .before .number32 .result) packet room)) (now (a .state)) (now (a .out)) (packet-request (now (a .body)) (c .before .before .before .before .before .before .before .before .before .before .if1 .left) (c .before .before .before .before .before .before .before .before .before .number32 .ensures) refl)
-    (packet-replied (now (a .state)) (now (a .out)) _ (c .before .before .before .before .before .before .before .before .before .before .before .before .before .pre) (c .before .before .before .before .before .before .booth-packet .result) (c .before .before .before .before .before .before .before .before .before .number32 .result) packet (c .before .before .before .before .before .before .booth-packet .ensures) (c .before .before .sent .ensures))
+    same-reply (call (Call.boothPacket (c .before .before .before .number32 .result) packet room)) (now (a .state)) (now (a .out)) (packet-request (now (a .body)) (c .before .before .before .before .if1 .left) (c .before .before .before .number32 .ensures) refl) (c .send-packet .ensures)
 
 pub booth-packet-spec : {M : Type 1} → statement M
-booth-packet-spec =
-    tie.close
-    (tie.spec
-    (λ c κs. search needs)
-    (λ c. search needs)
-    returns
-    (λ c κs. search needs)
-    (λ c. search needs)
-    (λ c. search needs)
-    (λ c. search needs)
-    (λ c. search needs)
-    (λ c. search needs)
-    (λ c. search needs)
-    (λ c κs. search needs)
-    sent-requires
-    (λ c. search needs)
-    returns-2)
+booth-packet-spec = tie.close (tie.spec (λ c κs. search needs) returns (λ c κs. search needs) (λ c. search needs) (λ c. search needs) (λ c. search needs) (λ c κs. search needs) returns-2)

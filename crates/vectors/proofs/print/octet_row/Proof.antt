@@ -7,10 +7,10 @@ use Rattle.vectors.proofs.print.octet_row.Tie as tie
 
 -- the place is within the octets, and the loop ends behind the last
 abbrev Inv-loop : tie.InvT-loop
-Inv-loop s i₀ t3 i-end i = (i ≤ length s) × (i-end ≡ length s)
+Inv-loop s i₀ i-end i = (i ≤ length s) × (i-end ≡ length s)
 
 abbrev μ-loop : tie.MeasureT-loop
-μ-loop s i₀ t3 i-end i = length s - i
+μ-loop s i₀ i-end i = length s - i
 
 pub octet-row-spec : {M : Type 1} → statement M
 octet-row-spec =
@@ -18,7 +18,6 @@ octet-row-spec =
     (tie.spec
     Inv-loop
     μ-loop
-    (λ c. search needs)
     (λ c. search needs)
     (λ c κs. search needs)
     (λ c. search needs)

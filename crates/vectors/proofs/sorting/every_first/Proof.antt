@@ -5,10 +5,10 @@ use Rattle.vectors.proofs.sorting.every_first.Tie as tie
 
 -- that the octet is at most 255 is in its type
 abbrev Inv-loop : tie.InvT-loop
-Inv-loop octet₀ t2 octet = Unit
+Inv-loop octet₀ octet = Unit
 
 abbrev μ-loop : tie.MeasureT-loop
-μ-loop octet₀ t2 octet = 255 - octet
+μ-loop octet₀ octet = 255 - octet
 
 pub every-first-spec : {M : Type 1} → statement M
 every-first-spec =
@@ -16,7 +16,6 @@ every-first-spec =
     (tie.spec
     Inv-loop
     μ-loop
-    (λ c. search needs)
     (λ c. search needs)
     (λ c κs. search needs)
     (λ c. search needs)

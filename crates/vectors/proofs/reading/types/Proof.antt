@@ -1,7 +1,7 @@
 use borrow.Author.Needs.{needs}
 use Prim.Native.Nat.{_-_}
-use Rattle.vectors.proofs.types.cases.Statement.{statement}
-use Rattle.vectors.proofs.types.cases.Tie as tie
+use Rattle.vectors.proofs.reading.types.Statement.{statement}
+use Rattle.vectors.proofs.reading.types.Tie as tie
 
 -- that the octet is at most 255 is in its type
 abbrev Inv-loop : tie.InvT-loop
@@ -10,8 +10,8 @@ Inv-loop message-type₀ message-type = Unit
 abbrev μ-loop : tie.MeasureT-loop
 μ-loop message-type₀ message-type = 255 - message-type
 
-pub cases-spec : {M : Type 1} → statement M
-cases-spec =
+pub types-spec : {M : Type 1} → statement M
+types-spec =
     tie.close
     (tie.spec
     Inv-loop

@@ -1,0 +1,28 @@
+-- The numbers that an answer frame carries in two octets: places, and octets taken.
+use Prim.Native.Nat.{ℕ, _<_}
+use mathlib.Core.List.{List}
+use Rattle.rules.specs.Answer.{Answer, refused, moreNeeded, wrote, placed, ended, found, keysStored, delivery, removed, version}
+use Rattle.rules.specs.Table.{answer}
+use Rattle.service.specs.Request.{Request, call, noCall}
+
+-- the number of an answer; 0 where it has none
+abbrev pub numberIn : Answer → ℕ
+numberIn (refused number taken) = taken
+numberIn moreNeeded = 0
+numberIn (wrote octets) = 0
+numberIn (placed place) = place
+numberIn ended = 0
+numberIn (found a) = 0
+numberIn (keysStored taken) = taken
+numberIn (delivery endpoint dtls taken) = taken
+numberIn (removed taken) = taken
+numberIn (version number taken) = taken
+
+-- what two octets can say
+abbrev pub numbers16 : ℕ
+numbers16 = 65536
+
+-- the two octets say the number whole; the relay's own answers have none
+abbrev pub NumbersWhole : List ℕ → Request → Type 0
+NumbersWhole s (call c) = numberIn (answer s c) < numbers16
+NumbersWhole s (noCall kind) = Unit {0}
