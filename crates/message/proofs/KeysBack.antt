@@ -42,7 +42,7 @@ module _ (identifier : List ℕ) (profile : ℕ) (mki clientKey serverKey client
   keys-back number accepted =
       let body = encodeBody keys in
       let wide : length identifier ≡ width = eqb-true _ _ (accepted .identifier) in
-      let fit = keys-fit identifier profile mki clientKey serverKey clientSalt serverSalt (accepted .fields) in
+      let fit = keys-fit (length mki) (length clientKey) (length serverKey) (length clientSalt) (length serverSalt) (accepted .fields) in
       -- what stands behind each field
       let t5 = vector8 serverSalt ++ [] in
       let t4 = vector8 clientSalt ++ t5 in

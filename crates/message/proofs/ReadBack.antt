@@ -15,12 +15,12 @@ use Rattle.message.specs.Frame.{kindOf, frame, versionFrame}
 use Rattle.message.specs.Body as Body
 use Rattle.message.specs.Read.{reading}
 use Rattle.message.specs.Parts.{identifierPlace, listPlace, dtlsPlace, meaning}
-use Rattle.message.specs.Write.{writing, written, accepts}
+use Rattle.message.specs.Write.{writing, written}
 use Rattle.message.specs.Claims.{Numbers, ReadsBack}
 use Rattle.message.specs.declared.bodies.Fields.the-variants.{SupportedProfiles, UnsupportedVersion, TunneledDtls, EndpointDisconnect}
 use Rattle.octets.proofs.HoldLaws.{holds-all, holds-two}
 use Rattle.message.proofs.WalkLaws.{fixed-good, field16-good, complete-good}
-use Rattle.message.proofs.VerdictLaws.{Fits, accepted-fits}
+use Rattle.message.proofs.VerdictLaws.{Fits, written-says}
 use Rattle.message.proofs.EncodeLaws.{lent-part, reads-back}
 use Rattle.message.proofs.KeysBack.{keys-back}
 
@@ -85,4 +85,4 @@ back (tunneledDtls identifier dtls) rest n a = dtls-back identifier dtls rest a
 back (endpointDisconnect identifier) rest n a = disconnect-back identifier rest a
 
 pub written-reads-back : (m : Message) (room count : ℕ) (rest : List ℕ) → Numbers m → writing m room ≡ written count → ReadsBack m rest
-written-reads-back m room count rest n e = back m rest n (accepted-fits m room (ap accepts e))
+written-reads-back m room count rest n e = back m rest n (written-says m room e .1)

@@ -1,16 +1,17 @@
 -- Laws of the verdict on a message to be written.
-use Prim.Native.Nat.{ℕ, _+_, _≤_}
-use mathlib.Core.Path.{_≡_, refl, sym}
-use mathlib.Core.Bool.{Bool, true, false, cond, not}
+use Prim.Native.Nat.{ℕ, _+_, _≤_, _<_}
+use mathlib.Core.Path.{_≡_, refl, sym, ap, subst, _∙_}
+use mathlib.Core.Bool.{Bool, true, false, not}
 use mathlib.Core.List.{List, _++_}
 use native.Mathlib.Omega.{arith}
-use borrow.Author.Tests.{ltb-false, not-false}
-use lib.Dec.{ltb}
+use borrow.Author.Tests.{ltb-false, not-false, eqb-true}
+use lib.Dec.{ltb, eqb}
 use lib.ListN.{length, drop, length-append}
 use Rattle.octets.proofs.Tests.{by-choice, false-true}
-use Rattle.message.specs.Limits.{header, bodyLimit}
-use Rattle.message.specs.Message.{Message, encode, encodeBody}
-use Rattle.message.specs.Write.{Verdict, refused, written, fitting, identifierFits, fieldsFit, writing, accepts, output, outputAfter}
+use Rattle.message.specs.Limits.{width, header, bodyLimit}
+use Rattle.message.specs.Message.{Message, supportedProfiles, unsupportedVersion, tunneledDtls, endpointDisconnect, encode, encodeBody}
+use Rattle.message.specs.Write.{Verdict, refused, written, refuse, fitting, identifierFits, fieldsFit, writing, accepts, front, output, outputAfter}
+use Rattle.message.specs.Steps.{verdict, countOf}
 
 pub encode-length : (m : Message) → length (encode m) ≡ header + length (encodeBody m)
 unfolding encode
@@ -23,58 +24,81 @@ pub record Fits (m : Message) (room : ℕ) : Type 0 where
   pub limit : length (encodeBody m) ≤ bodyLimit
   pub there : length (encode m) ≤ room
 
--- ---- the earliest refusal
-
 module _ (m : Message) (room : ℕ) where
-  pub writing-20 : identifierFits m ≡ false → refused 20 ≡ writing m room
+  -- ---- the earliest refusal, by the lengths
+
+  by-identifier : (b : Bool) (n : ℕ) → (b ≡ true → length (encodeBody m) ≡ n)
+      → verdict b (fieldsFit m) n room
+      ≡ refuse (not b) 20 (refuse (not (fieldsFit m)) 5 (fitting (length (encodeBody m)) (length (encode m)) room))
+  by-identifier true n h = rw (encode-length m, h refl)
+  by-identifier false n h = refl
+
+  pub verdict-is : (n : ℕ) → (identifierFits m ≡ true → length (encodeBody m) ≡ n)
+      → verdict (identifierFits m) (fieldsFit m) n room ≡ writing m room
   unfolding writing
-  writing-20 h = rw h
+  verdict-is n h = by-identifier (identifierFits m) n h
 
-  pub writing-5 : identifierFits m ≡ true → fieldsFit m ≡ false → refused 5 ≡ writing m room
-  unfolding writing
-  writing-5 h k = rw (h, k)
+  -- ---- a message that is written fits
 
-  pub writing-fits : (n : ℕ) → identifierFits m ≡ true → fieldsFit m ≡ true → length (encodeBody m) ≡ n
-      → fitting n (header + n) room ≡ writing m room
-  unfolding writing
-  writing-fits n h k e = rw (h, k, encode-length m, e)
+  abbrev Says : Verdict → Type 0
+  Says (refused number) = Unit {0}
+  Says (written count) = (count ≡ length (encode m)) × Fits m room
 
-  -- ---- an accepted message fits
-
-  abbrev Accepted : Verdict → Type 0
-  Accepted (refused number) = Unit {0}
-  Accepted (written count) = Fits m room
-
-  accepted : (v : Verdict) → accepts v ≡ true → Accepted v → Fits m room
-  accepted (refused number) h f = absurd (false-true h)
-  accepted (written count) h f = f
-
-  verdict-says : Accepted (writing m room)
+  verdict-says : Says (writing m room)
   unfolding writing
   verdict-says =
-      by-choice Accepted (not (identifierFits m)) _ _ (λ _. tt) (λ a.
-      by-choice Accepted (not (fieldsFit m)) _ _ (λ _. tt) (λ b.
-      by-choice Accepted (ltb bodyLimit (length (encodeBody m))) _ _ (λ _. tt) (λ d.
-      by-choice Accepted (ltb room (length (encode m))) _ _ (λ _. tt) (λ e.
-      record { identifier = not-false _ a; fields = not-false _ b; limit = ltb-false _ _ d; there = ltb-false _ _ e }))))
+      by-choice Says (not (identifierFits m)) _ _ (λ _. tt) (λ a.
+      by-choice Says (not (fieldsFit m)) _ _ (λ _. tt) (λ b.
+      by-choice Says (ltb bodyLimit (length (encodeBody m))) _ _ (λ _. tt) (λ d.
+      by-choice Says (ltb room (length (encode m))) _ _ (λ _. tt) (λ e.
+      (refl, record { identifier = not-false _ a; fields = not-false _ b; limit = ltb-false _ _ d; there = ltb-false _ _ e })))))
 
-  pub accepted-fits : accepts (writing m room) ≡ true → Fits m room
-  accepted-fits h = accepted (writing m room) h verdict-says
+  pub written-says : {count : ℕ} → writing m room ≡ written count → (count ≡ length (encode m)) × Fits m room
+  written-says e = subst Says e verdict-says
+
+-- ---- the verdict on each message but MediaKeys
+
+module _ {v : Verdict} (room : ℕ) where
+  pub profiles-verdict : (version : ℕ) (l : List ℕ)
+      → v ≡ verdict true (fieldsFit (supportedProfiles version l)) (3 + length l) room → v ≡ writing (supportedProfiles version l) room
+  profiles-verdict version l e = e ∙ verdict-is (supportedProfiles version l) room (3 + length l) (λ _. omega arith)
+
+  pub version-verdict : (version : ℕ) → v ≡ verdict true true 1 room → v ≡ writing (unsupportedVersion version) room
+  version-verdict version e = e ∙ verdict-is (unsupportedVersion version) room 1 (λ _. refl)
+
+  pub dtls-verdict : (i d : List ℕ) → v ≡ verdict (eqb (length i) width) (fieldsFit (tunneledDtls i d)) (width + 2 + length d) room
+      → v ≡ writing (tunneledDtls i d) room
+  dtls-verdict i d e =
+      e
+      ∙ verdict-is (tunneledDtls i d) room (width + 2 + length d)
+      (λ h. let w = eqb-true (length i) width h in simp length-append (omega arith))
+
+  pub disconnect-verdict : (i : List ℕ) → v ≡ verdict (eqb (length i) width) true width room → v ≡ writing (endpointDisconnect i) room
+  disconnect-verdict i e = e ∙ verdict-is (endpointDisconnect i) room width (eqb-true (length i) width)
 
 -- ---- the output
 
-output-of : (v : Verdict) (m : Message) (out : List ℕ) → (b : Bool) → accepts v ≡ b
-    → cond b (encode m ++ drop (length (encode m)) out) out ≡ outputAfter v m out
-output-of (refused number) m out true h = absurd (false-true h)
-output-of (refused number) m out false h = refl
-output-of (written count) m out true h = refl
-output-of (written count) m out false h = absurd (false-true (sym h))
+count-tells : (v : Verdict) {count : ℕ} → count ≡ countOf v → 0 < count → v ≡ written count
+count-tells (refused number) e h = absurd (omega arith)
+count-tells (written n) e h = ap written (sym e)
+
+-- a count of octets tells whether anything is written
+pub counted : {v w : Verdict} {count : ℕ} → v ≡ w → count ≡ countOf v → 0 < count → w ≡ written count
+counted {v} e k h = sym e ∙ count-tells v k h
+
+output-of : (v : Verdict) (m : Message) (out : List ℕ) → accepts v ≡ true → front m out ≡ outputAfter v m out
+output-of (refused number) m out h = absurd (false-true h)
+output-of (written count) m out h = refl
 
 module _ (m : Message) (out : List ℕ) where
   pub output-written : accepts (writing m (length out)) ≡ true → encode m ++ drop (length (encode m)) out ≡ output m out
   unfolding output
-  output-written h = output-of (writing m (length out)) m out true h
+  output-written h = output-of (writing m (length out)) m out h
 
-  pub output-refused : accepts (writing m (length out)) ≡ false → out ≡ output m out
+  pub output-told : {after : List ℕ} {count : ℕ} → writing m (length out) ≡ written count → after ≡ front m out → after ≡ output m out
+  output-told e h = h ∙ output-written (ap accepts e)
+
+  pub output-refused : (v : Verdict) {count : ℕ} → v ≡ writing m (length out) → count ≡ countOf v → count ≤ 0 → out ≡ output m out
   unfolding output
-  output-refused h = output-of (writing m (length out)) m out false h
+  output-refused (refused number) e k h = rw (← e)
+  output-refused (written n) e k h = absurd (omega (arith, written-says m (length out) (sym e) .0, encode-length m))

@@ -19,7 +19,7 @@ pub data Content : Type 0 where
   fields : Fields → Content
 
 -- a body that its last field ends, or refusal 5
-abbrev ending : List ℕ → Walk → Fields → Content
+abbrev pub ending : List ℕ → Walk → Fields → Content
 ending body w f = cond (complete body w) (fields f) (refused 5)
 
 -- version 1; list length 2; profiles of 2 octets each, at least one

@@ -6,5 +6,6 @@ pub mod Body
 pub mod Read
 pub mod Parts
 pub mod Write
+pub mod Steps
 pub mod Profiles
 pub mod Claims

@@ -3,6 +3,7 @@ use crate::framing::Kind;
 use crate::limits::WIDTH;
 use crate::walking;
 use crate::walking::BEGIN;
+use crate::walking::Walk;
 ghost use mathlib.Core.Path.{_≡_};
 ghost use Rattle.message.specs.Body as Spec;
 
@@ -32,21 +33,27 @@ pub enum Body {
     Good { fields: Fields },
 }
 
+// Fields of which the last ends the body, or refusal 5.
+fn ending(body: &[u8], w: Walk, fields: Fields) -> Body
+    ensures { λ r. ⌜ Spec.contentOf r ≡ Spec.ending (now (body .entry)) w fields ⌝ }
+{
+    if walking::complete(body, w) {
+        Body::Good { fields }
+    } else {
+        Body::Bad
+    }
+}
+
 fn supported_profiles(body: &[u8]) -> Body
     ensures { λ r. ⌜ Spec.contentOf r ≡ Spec.supportedProfiles (now (body .entry)) ⌝ }
 {
     let version = walking::fixed(body, 1, BEGIN);
     let list = walking::profile_list(body, version);
-    if walking::complete(body, list) {
-        Body::Good {
-            fields: Fields::SupportedProfiles {
-                version: octets::octet(body, 0),
-                list_length: octets::number16(body, version.at),
-            },
-        }
-    } else {
-        Body::Bad
-    }
+    let fields = Fields::SupportedProfiles {
+        version: octets::octet(body, 0),
+        list_length: octets::number16(body, version.at),
+    };
+    ending(body, list, fields)
 }
 
 fn unsupported_version(body: &[u8]) -> Body
@@ -63,6 +70,7 @@ fn unsupported_version(body: &[u8]) -> Body
     }
 }
 
+// The lengths are read once the body is known to hold them.
 fn media_keys(body: &[u8]) -> Body
     ensures { λ r. ⌜ Spec.contentOf r ≡ Spec.mediaKeys (now (body .entry)) ⌝ }
 {
@@ -96,27 +104,17 @@ fn tunneled_dtls(body: &[u8]) -> Body
 {
     let identifier = walking::fixed(body, WIDTH, BEGIN);
     let dtls = walking::field16(body, identifier);
-    if walking::complete(body, dtls) {
-        Body::Good {
-            fields: Fields::TunneledDtls {
-                dtls_length: octets::number16(body, identifier.at),
-            },
-        }
-    } else {
-        Body::Bad
-    }
+    let fields = Fields::TunneledDtls {
+        dtls_length: octets::number16(body, identifier.at),
+    };
+    ending(body, dtls, fields)
 }
 
 fn endpoint_disconnect(body: &[u8]) -> Body
     ensures { λ r. ⌜ Spec.contentOf r ≡ Spec.endpointDisconnect (now (body .entry)) ⌝ }
 {
-    if walking::complete(body, walking::fixed(body, WIDTH, BEGIN)) {
-        Body::Good {
-            fields: Fields::EndpointDisconnect,
-        }
-    } else {
-        Body::Bad
-    }
+    let identifier = walking::fixed(body, WIDTH, BEGIN);
+    ending(body, identifier, Fields::EndpointDisconnect)
 }
 
 pub fn read_body(kind: Kind, body: &[u8]) -> Body

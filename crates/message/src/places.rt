@@ -11,6 +11,8 @@ ghost use mathlib.Core.Path.{_≡_};
 ghost use Rattle.message.specs.Read.{answerOf};
 ghost use Rattle.message.specs.Parts as Spec;
 ghost use Rattle.octets.specs.Bounds as B;
+ghost use Rattle.message.specs.Limits.{header, most16};
+ghost use Prim.Native.Nat.{_+_, _≤_, _<_};
 
 pub struct KeyPlaces {
     pub mki: Bounds,
@@ -41,117 +43,113 @@ pub enum Field {
     ServerSalt,
 }
 
-const NO_KEYS: KeyPlaces = KeyPlaces {
-    mki: NOWHERE,
-    client_key: NOWHERE,
-    server_key: NOWHERE,
-    client_salt: NOWHERE,
-    server_salt: NOWHERE,
-};
-
-const NO_PLACES: Places = Places {
-    body: NOWHERE,
-    identifier: NOWHERE,
-    profile_list: NOWHERE,
-    dtls: NOWHERE,
-    keys: NO_KEYS,
-};
-
 const IDENTIFIER: Bounds = Bounds {
     start: HEADER,
     end: HEADER + WIDTH,
 };
 
+// A field of n octets from a place on.
+fn behind(start: usize, n: u16) -> Bounds
+    requires { ⌜ start ≤ most16 ⌝ }
+    ensures { λ r. ⌜ r ≡ B.behind start n ⌝ }
+{
+    Bounds {
+        start,
+        end: start + n as usize,
+    }
+}
+
+// A field behind the length octet that follows another field.
+fn next(field: Bounds, n: u8) -> Bounds
+    requires { ⌜ field .end < most16 ⌝ }
+    ensures { λ r. ⌜ r ≡ B.behind (field .end + 1) n ⌝ }
+{
+    behind(field.end + 1, n as u16)
+}
+
 // Where the key fields of a MediaKeys with these lengths stand.
 pub fn key_places(k: KeyLengths) -> KeyPlaces
     ensures { λ r. ⌜ r ≡ Spec.keyPlaces k ⌝ }
 {
-    let a = HEADER + WIDTH + 3;
-    let b = a + k.mki as usize;
-    let c = b + 1 + k.client_key as usize;
-    let d = c + 1 + k.server_key as usize;
-    let e = d + 1 + k.client_salt as usize;
-    let f = e + 1 + k.server_salt as usize;
+    let mki = behind(HEADER + WIDTH + 3, k.mki as u16);
+    let client_key = next(mki, k.client_key);
+    let server_key = next(client_key, k.server_key);
+    let client_salt = next(server_key, k.client_salt);
+    let server_salt = next(client_salt, k.server_salt);
     KeyPlaces {
-        mki: Bounds { start: a, end: b },
-        client_key: Bounds {
-            start: b + 1,
-            end: c,
-        },
-        server_key: Bounds {
-            start: c + 1,
-            end: d,
-        },
-        client_salt: Bounds {
-            start: d + 1,
-            end: e,
-        },
-        server_salt: Bounds {
-            start: e + 1,
-            end: f,
-        },
+        mki,
+        client_key,
+        server_key,
+        client_salt,
+        server_salt,
     }
 }
 
+fn no_keys() -> KeyPlaces
+    ensures { λ r. ⌜ r ≡ Spec.noKeys ⌝ }
+{
+    let none = NOWHERE;
+    KeyPlaces {
+        mki: none,
+        client_key: none,
+        server_key: none,
+        client_salt: none,
+        server_salt: none,
+    }
+}
+
+fn no_places() -> Places
+    ensures { λ r. ⌜ r ≡ Spec.placesAt B.nowhere B.nowhere B.nowhere B.nowhere Spec.noKeys ⌝ }
+{
+    let none = NOWHERE;
+    Places {
+        body: none,
+        identifier: none,
+        profile_list: none,
+        dtls: none,
+        keys: no_keys(),
+    }
+}
+
+// A body that ends at a place and starts with an identifier, and no other field.
+fn identified(end: usize) -> Places
+    ensures { λ r. ⌜ r ≡ Spec.placesAt (B.between header end) Spec.identifierPlace B.nowhere B.nowhere Spec.noKeys ⌝ }
+{
+    let none = NOWHERE;
+    Places {
+        body: Bounds { start: HEADER, end },
+        identifier: IDENTIFIER,
+        profile_list: none,
+        dtls: none,
+        keys: no_keys(),
+    }
+}
+
+// Three types have an identifier, and each but one of these has another field.
 fn field_places(fields: Fields, taken: usize) -> Places
     ensures { λ r. ⌜ r ≡ Spec.fieldPlaces fields taken ⌝ }
 {
-    let body = Bounds {
-        start: HEADER,
-        end: taken,
-    };
+    let mut p = identified(taken);
     match fields {
         Fields::SupportedProfiles {
             version: _,
             list_length,
-        } => Places {
-            body,
-            identifier: NOWHERE,
-            profile_list: Bounds {
-                start: HEADER + 3,
-                end: HEADER + 3 + list_length as usize,
-            },
-            dtls: NOWHERE,
-            keys: NO_KEYS,
-        },
-        Fields::UnsupportedVersion { version: _ } => Places {
-            body: Bounds {
-                start: HEADER,
-                end: HEADER + 1,
-            },
-            identifier: NOWHERE,
-            profile_list: NOWHERE,
-            dtls: NOWHERE,
-            keys: NO_KEYS,
-        },
+        } => {
+            p.identifier = behind(0, 0);
+            p.profile_list = behind(HEADER + 3, list_length);
+        }
+        Fields::UnsupportedVersion { version: _ } => {
+            p.identifier = behind(0, 0);
+            p.body = behind(HEADER, 1);
+        }
         Fields::MediaKeys {
             profile: _,
             lengths,
-        } => Places {
-            body,
-            identifier: IDENTIFIER,
-            profile_list: NOWHERE,
-            dtls: NOWHERE,
-            keys: key_places(lengths),
-        },
-        Fields::TunneledDtls { dtls_length } => Places {
-            body,
-            identifier: IDENTIFIER,
-            profile_list: NOWHERE,
-            dtls: Bounds {
-                start: HEADER + WIDTH + 2,
-                end: HEADER + WIDTH + 2 + dtls_length as usize,
-            },
-            keys: NO_KEYS,
-        },
-        Fields::EndpointDisconnect => Places {
-            body,
-            identifier: IDENTIFIER,
-            profile_list: NOWHERE,
-            dtls: NOWHERE,
-            keys: NO_KEYS,
-        },
+        } => p.keys = key_places(lengths),
+        Fields::TunneledDtls { dtls_length } => p.dtls = behind(HEADER + WIDTH + 2, dtls_length),
+        Fields::EndpointDisconnect => {}
     }
+    p
 }
 
 // Where the fields stand that an answer has.
@@ -159,12 +157,13 @@ pub fn places_of(read: Read) -> Places
     ensures { λ r. ⌜ r ≡ Spec.places (answerOf read) ⌝ }
 {
     match read {
-        Read::MoreNeeded => NO_PLACES,
-        Read::Oversize => NO_PLACES,
-        Read::Unlisted { taken: _ } => NO_PLACES,
-        Read::BadBody { taken: _ } => NO_PLACES,
-        Read::Accepted { fields, taken } => field_places(fields, taken),
+        Read::MoreNeeded => {}
+        Read::Oversize => {}
+        Read::Unlisted { taken: _ } => {}
+        Read::BadBody { taken: _ } => {}
+        Read::Accepted { fields, taken } => return field_places(fields, taken),
     }
+    no_places()
 }
 
 pub fn place_of(p: Places, field: Field) -> Bounds

@@ -1,68 +1,66 @@
 // The octets of messages, piece behind piece, in an output that has room for them.
-use crate::limits::WIDTH;
+use crate::limits::HEADER;
 ghost use mathlib.Core.Path.{_≡_};
-ghost use mathlib.Core.Bool.{true};
-ghost use mathlib.Core.List.{_∷_};
-ghost use Prim.Native.Nat.{_+_, _≤_};
+ghost use mathlib.Core.List.{_∷_, _++_};
+ghost use Prim.Native.Nat.{_-_, _≤_};
 ghost use lib.ListN.{length};
 ghost use Rattle.octets.specs.Number.{octets16};
-ghost use Rattle.octets.specs.Write.{over, put, putEnd};
+ghost use Rattle.octets.specs.Write.{over};
 ghost use Rattle.message.specs.Limits.{header, most8, most16};
 ghost use Rattle.message.specs.Message as M;
-ghost use Rattle.message.specs.Write.{accepts, front, writing};
+ghost use Rattle.message.specs.Write.{front, writing, written};
+ghost use Rattle.message.specs.Steps.{Puts};
 
-// The type and the length of a body.
-fn put_header(message_type: u8, body_length: u16, out: &mut [u8]) -> usize
-    requires { ⌜ header ≤ length (now out) ⌝ }
-    ensures { λ r. ⌜ (r ≡ header) × (now (out .exit) ≡ over (now (out .entry)) 0 («message_type» ∷ octets16 «body_length»)) ⌝ }
+// The type and the length of the body of a message of so many octets.
+fn put_header(message_type: u8, count: usize, out: &mut [u8]) -> usize
+    requires { ⌜ (header ≤ count) × (count ≤ most16) × (header ≤ length (now out)) ⌝ }
+    ensures { λ r. ⌜ (r ≡ header) × (now (out .exit) ≡ over (now (out .entry)) 0 («message_type» ∷ octets16 (count - header))) ⌝ }
 {
     let at = octets::put_octet(out, 0, message_type);
-    octets::put_number16(out, at, body_length)
+    octets::put_number16(out, at, (count - HEADER) as u16)
 }
 
-// A field behind its length octet: written whole where both fit, else nothing is written.
+// A field behind its length octet, where there is room.
 fn put_vector8(field: &[u8], at: usize, out: &mut [u8]) -> usize
     requires { ⌜ length (now field) ≤ most8 ⌝ }
-    ensures { λ r. ⌜ (r ≡ putEnd (now (out .entry)) at (M.vector8 (now (field .entry)))) × (now (out .exit) ≡ put (now (out .entry)) at (M.vector8 (now (field .entry)))) ⌝ }
+    ensures { λ r. ⌜ Puts (now (out .entry)) at (M.vector8 (now (field .entry))) r (now (out .exit)) ⌝ }
 {
-    if at <= out.len() {
-        if field.len() < out.len() - at {
-            let next = octets::put_octet(out, at, field.len() as u8);
-            return octets::put_octets(out, next, field);
-        }
-    }
-    at
+    let next = octets::put_octet(out, at, field.len() as u8);
+    octets::put_octets(out, next, field)
 }
 
-// A field behind its two length octets, likewise.
+// Two such fields.
+fn put_two(first: &[u8], second: &[u8], at: usize, out: &mut [u8]) -> usize
+    requires { ⌜ (length (now first) ≤ most8) × (length (now second) ≤ most8) ⌝ }
+    ensures { λ r. ⌜ Puts (now (out .entry)) at (M.vector8 (now (first .entry)) ++ M.vector8 (now (second .entry))) r (now (out .exit)) ⌝ }
+{
+    let next = put_vector8(first, at, out);
+    put_vector8(second, next, out)
+}
+
+// A field behind its two length octets, where there is room.
 fn put_vector16(field: &[u8], at: usize, out: &mut [u8]) -> usize
     requires { ⌜ length (now field) ≤ most16 ⌝ }
-    ensures { λ r. ⌜ (r ≡ putEnd (now (out .entry)) at (M.vector16 (now (field .entry)))) × (now (out .exit) ≡ put (now (out .entry)) at (M.vector16 (now (field .entry)))) ⌝ }
+    ensures { λ r. ⌜ Puts (now (out .entry)) at (M.vector16 (now (field .entry))) r (now (out .exit)) ⌝ }
 {
-    if at <= out.len() {
-        if field.len() + 2 <= out.len() - at {
-            let next = octets::put_number16(out, at, field.len() as u16);
-            return octets::put_octets(out, next, field);
-        }
-    }
-    at
+    let next = octets::put_number16(out, at, field.len() as u16);
+    octets::put_octets(out, next, field)
 }
 
-pub(crate) fn supported_profiles(version: u8, list: &[u8], out: &mut [u8])
-    requires { ⌜ accepts (writing (M.supportedProfiles version (now list)) (length (now out))) ≡ true ⌝ }
+pub(crate) fn supported_profiles(version: u8, list: &[u8], count: usize, out: &mut [u8])
+    requires { ⌜ writing (M.supportedProfiles version (now list)) (length (now out)) ≡ written count ⌝ }
     ensures { λ _. ⌜ now (out .exit) ≡ front (M.supportedProfiles version (now (list .entry))) (now (out .entry)) ⌝ }
 {
-    let n = (3 + list.len()) as u16;
-    let a = put_header(1, n, out);
+    let a = put_header(1, count, out);
     let b = octets::put_octet(out, a, version);
     put_vector16(list, b, out);
 }
 
-pub(crate) fn unsupported_version(version: u8, out: &mut [u8])
-    requires { ⌜ accepts (writing (M.unsupportedVersion version) (length (now out))) ≡ true ⌝ }
+pub(crate) fn unsupported_version(version: u8, count: usize, out: &mut [u8])
+    requires { ⌜ writing (M.unsupportedVersion version) (length (now out)) ≡ written count ⌝ }
     ensures { λ _. ⌜ now (out .exit) ≡ front (M.unsupportedVersion version) (now (out .entry)) ⌝ }
 {
-    let a = put_header(2, 1, out);
+    let a = put_header(2, count, out);
     octets::put_octet(out, a, version);
 }
 
@@ -74,42 +72,33 @@ pub(crate) fn media_keys(
     server_key: &[u8],
     client_salt: &[u8],
     server_salt: &[u8],
+    count: usize,
     out: &mut [u8],
 )
-    requires { ⌜ accepts (writing (M.mediaKeys (now identifier) profile (now mki) (now «client_key») (now «server_key») (now «client_salt») (now «server_salt»)) (length (now out))) ≡ true ⌝ }
+    requires { ⌜ writing (M.mediaKeys (now identifier) profile (now mki) (now «client_key») (now «server_key») (now «client_salt») (now «server_salt»)) (length (now out)) ≡ written count ⌝ }
     ensures { λ _. ⌜ now (out .exit) ≡ front (M.mediaKeys (now (identifier .entry)) profile (now (mki .entry)) (now («client_key» .entry)) (now («server_key» .entry)) (now («client_salt» .entry)) (now («server_salt» .entry))) (now (out .entry)) ⌝ }
 {
-    let n = WIDTH
-        + 7
-        + mki.len()
-        + client_key.len()
-        + server_key.len()
-        + client_salt.len()
-        + server_salt.len();
-    let a = put_header(3, n as u16, out);
+    let a = put_header(3, count, out);
     let b = octets::put_octets(out, a, identifier);
     let c = octets::put_number16(out, b, profile);
     let d = put_vector8(mki, c, out);
-    let e = put_vector8(client_key, d, out);
-    let f = put_vector8(server_key, e, out);
-    let g = put_vector8(client_salt, f, out);
-    put_vector8(server_salt, g, out);
+    let e = put_two(client_key, server_key, d, out);
+    put_two(client_salt, server_salt, e, out);
 }
 
-pub(crate) fn tunneled_dtls(identifier: &[u8], dtls: &[u8], out: &mut [u8])
-    requires { ⌜ accepts (writing (M.tunneledDtls (now identifier) (now dtls)) (length (now out))) ≡ true ⌝ }
+pub(crate) fn tunneled_dtls(identifier: &[u8], dtls: &[u8], count: usize, out: &mut [u8])
+    requires { ⌜ writing (M.tunneledDtls (now identifier) (now dtls)) (length (now out)) ≡ written count ⌝ }
     ensures { λ _. ⌜ now (out .exit) ≡ front (M.tunneledDtls (now (identifier .entry)) (now (dtls .entry))) (now (out .entry)) ⌝ }
 {
-    let n = (WIDTH + 2 + dtls.len()) as u16;
-    let a = put_header(4, n, out);
+    let a = put_header(4, count, out);
     let b = octets::put_octets(out, a, identifier);
     put_vector16(dtls, b, out);
 }
 
-pub(crate) fn endpoint_disconnect(identifier: &[u8], out: &mut [u8])
-    requires { ⌜ accepts (writing (M.endpointDisconnect (now identifier)) (length (now out))) ≡ true ⌝ }
+pub(crate) fn endpoint_disconnect(identifier: &[u8], count: usize, out: &mut [u8])
+    requires { ⌜ writing (M.endpointDisconnect (now identifier)) (length (now out)) ≡ written count ⌝ }
     ensures { λ _. ⌜ now (out .exit) ≡ front (M.endpointDisconnect (now (identifier .entry))) (now (out .entry)) ⌝ }
 {
-    let a = put_header(5, WIDTH as u16, out);
+    let a = put_header(5, count, out);
     octets::put_octets(out, a, identifier);
 }

@@ -6,10 +6,11 @@ use crate::limits::MOST_16;
 use crate::limits::WIDTH;
 use crate::putting;
 ghost use mathlib.Core.Path.{_≡_};
-ghost use Prim.Native.Nat.{_+_};
-ghost use Rattle.message.specs.Limits.{header};
+ghost use lib.Dec.{eqb};
+ghost use Rattle.message.specs.Limits.{width};
 ghost use Rattle.message.specs.Message as M;
 ghost use Rattle.message.specs.Write as Spec;
+ghost use Rattle.message.specs.Steps as Steps;
 
 pub enum Write {
     // Refusal 20.
@@ -23,10 +24,17 @@ pub enum Write {
     Written { count: usize },
 }
 
-// Refusals 2 and 13, or the message's length.
-fn fit(body_length: usize, room: usize) -> Write
-    ensures { λ r. ⌜ Spec.verdictOf r ≡ Spec.fitting «body_length» (header + «body_length») room ⌝ }
+// Refusals 20; 5; 2; 13 by the identifier's length, whether the fields fit and the body's length,
+// or the message's length. A message with no identifier gives WIDTH.
+fn fit(identifier: usize, fields: bool, body_length: usize, room: usize) -> Write
+    ensures { λ r. ⌜ Spec.verdictOf r ≡ Steps.verdict (eqb identifier width) fields «body_length» room ⌝ }
 {
+    if identifier != WIDTH {
+        return Write::IdentifierLength;
+    }
+    if !fields {
+        return Write::BadFields;
+    }
     if (BODY_LIMIT as usize) < body_length {
         return Write::Oversize;
     }
@@ -38,25 +46,16 @@ fn fit(body_length: usize, room: usize) -> Write
     }
 }
 
-fn accepted(answer: Write) -> bool
-    ensures { λ r. ⌜ r ≡ Spec.accepts (Spec.verdictOf answer) ⌝ }
+// The octets written, 0 where the message is refused.
+fn count_of(answer: Write) -> usize
+    ensures { λ r. ⌜ r ≡ Steps.countOf (Spec.verdictOf answer) ⌝ }
 {
     match answer {
-        Write::IdentifierLength => false,
-        Write::BadFields => false,
-        Write::Oversize => false,
-        Write::NoRoom => false,
-        Write::Written { count: _ } => true,
-    }
-}
-
-fn fit_supported_profiles(version: u8, list: &[u8], room: usize) -> Write
-    ensures { λ r. ⌜ Spec.verdictOf r ≡ Spec.writing (M.supportedProfiles version (now (list .entry))) room ⌝ }
-{
-    if octets::within(1, MOST_16, list.len()) & (list.len() % 2 == 0) {
-        fit(3 + list.len(), room)
-    } else {
-        Write::BadFields
+        Write::IdentifierLength => 0,
+        Write::BadFields => 0,
+        Write::Oversize => 0,
+        Write::NoRoom => 0,
+        Write::Written { count } => count,
     }
 }
 
@@ -64,56 +63,53 @@ fn fit_supported_profiles(version: u8, list: &[u8], room: usize) -> Write
 pub fn write_supported_profiles(version: u8, list: &[u8], out: &mut [u8]) -> Write
     ensures { λ r. ⌜ Spec.Writes (M.supportedProfiles version (now (list .entry))) (now (out .entry)) (now (out .exit)) (Spec.verdictOf r) ⌝ }
 {
-    let answer = fit_supported_profiles(version, list, out.len());
-    if accepted(answer) {
-        putting::supported_profiles(version, list, out);
+    let fields = octets::within(1, MOST_16, list.len()) & (list.len() % 2 == 0);
+    let answer = fit(WIDTH, fields, 3 + list.len(), out.len());
+    let count = count_of(answer);
+    if 0 < count {
+        putting::supported_profiles(version, list, count, out);
     }
     answer
-}
-
-fn fit_unsupported_version(version: u8, room: usize) -> Write
-    ensures { λ r. ⌜ Spec.verdictOf r ≡ Spec.writing (M.unsupportedVersion version) room ⌝ }
-{
-    fit(1, room)
 }
 
 // UnsupportedVersion: refusals 13.
 pub fn write_unsupported_version(version: u8, out: &mut [u8]) -> Write
     ensures { λ r. ⌜ Spec.Writes (M.unsupportedVersion version) (now (out .entry)) (now (out .exit)) (Spec.verdictOf r) ⌝ }
 {
-    let answer = fit_unsupported_version(version, out.len());
-    if accepted(answer) {
-        putting::unsupported_version(version, out);
+    let answer = fit(WIDTH, true, 1, out.len());
+    let count = count_of(answer);
+    if 0 < count {
+        putting::unsupported_version(version, count, out);
     }
     answer
 }
 
+// MediaKeys by the lengths of its fields.
 fn fit_media_keys(
-    identifier: &[u8],
-    profile: u16,
-    mki: &[u8],
-    client_key: &[u8],
-    server_key: &[u8],
-    client_salt: &[u8],
-    server_salt: &[u8],
+    identifier: usize,
+    mki: usize,
+    client_key: usize,
+    server_key: usize,
+    client_salt: usize,
+    server_salt: usize,
     room: usize,
 ) -> Write
-    ensures { λ r. ⌜ Spec.verdictOf r ≡ Spec.writing (M.mediaKeys (now (identifier .entry)) profile (now (mki .entry)) (now («client_key» .entry)) (now («server_key» .entry)) (now («client_salt» .entry)) (now («server_salt» .entry))) room ⌝ }
+    ensures { λ r. ⌜ Spec.verdictOf r ≡ Steps.keysVerdict identifier mki «client_key» «server_key» «client_salt» «server_salt» room ⌝ }
 {
-    if identifier.len() != WIDTH {
-        return Write::IdentifierLength;
-    }
-    if octets::within(0, MOST_8, mki.len())
-        & octets::within(1, MOST_8, client_key.len())
-        & octets::within(1, MOST_8, server_key.len())
-        & octets::within(1, MOST_8, client_salt.len())
-        & octets::within(1, MOST_8, server_salt.len())
+    if octets::within(0, MOST_8, mki)
+        & octets::within(1, MOST_8, client_key)
+        & octets::within(1, MOST_8, server_key)
+        & octets::within(1, MOST_8, client_salt)
+        & octets::within(1, MOST_8, server_salt)
     {
-        let keys = client_key.len() + server_key.len();
-        let salts = client_salt.len() + server_salt.len();
-        fit(WIDTH + 7 + mki.len() + keys + salts, room)
+        fit(
+            identifier,
+            true,
+            WIDTH + 7 + mki + client_key + server_key + client_salt + server_salt,
+            room,
+        )
     } else {
-        Write::BadFields
+        fit(identifier, false, 0, room)
     }
 }
 
@@ -131,16 +127,16 @@ pub fn write_media_keys(
     ensures { λ r. ⌜ Spec.Writes (M.mediaKeys (now (identifier .entry)) profile (now (mki .entry)) (now («client_key» .entry)) (now («server_key» .entry)) (now («client_salt» .entry)) (now («server_salt» .entry))) (now (out .entry)) (now (out .exit)) (Spec.verdictOf r) ⌝ }
 {
     let answer = fit_media_keys(
-        identifier,
-        profile,
-        mki,
-        client_key,
-        server_key,
-        client_salt,
-        server_salt,
+        identifier.len(),
+        mki.len(),
+        client_key.len(),
+        server_key.len(),
+        client_salt.len(),
+        server_salt.len(),
         out.len(),
     );
-    if accepted(answer) {
+    let count = count_of(answer);
+    if 0 < count {
         putting::media_keys(
             identifier,
             profile,
@@ -149,52 +145,34 @@ pub fn write_media_keys(
             server_key,
             client_salt,
             server_salt,
+            count,
             out,
         );
     }
     answer
 }
 
-fn fit_tunneled_dtls(identifier: &[u8], dtls: &[u8], room: usize) -> Write
-    ensures { λ r. ⌜ Spec.verdictOf r ≡ Spec.writing (M.tunneledDtls (now (identifier .entry)) (now (dtls .entry))) room ⌝ }
-{
-    if identifier.len() != WIDTH {
-        return Write::IdentifierLength;
-    }
-    if octets::within(1, MOST_16, dtls.len()) {
-        fit(WIDTH + 2 + dtls.len(), room)
-    } else {
-        Write::BadFields
-    }
-}
-
 // TunneledDtls: refusals 20; 5; 2; 13.
 pub fn write_tunneled_dtls(identifier: &[u8], dtls: &[u8], out: &mut [u8]) -> Write
     ensures { λ r. ⌜ Spec.Writes (M.tunneledDtls (now (identifier .entry)) (now (dtls .entry))) (now (out .entry)) (now (out .exit)) (Spec.verdictOf r) ⌝ }
 {
-    let answer = fit_tunneled_dtls(identifier, dtls, out.len());
-    if accepted(answer) {
-        putting::tunneled_dtls(identifier, dtls, out);
+    let fields = octets::within(1, MOST_16, dtls.len());
+    let answer = fit(identifier.len(), fields, WIDTH + 2 + dtls.len(), out.len());
+    let count = count_of(answer);
+    if 0 < count {
+        putting::tunneled_dtls(identifier, dtls, count, out);
     }
     answer
-}
-
-fn fit_endpoint_disconnect(identifier: &[u8], room: usize) -> Write
-    ensures { λ r. ⌜ Spec.verdictOf r ≡ Spec.writing (M.endpointDisconnect (now (identifier .entry))) room ⌝ }
-{
-    if identifier.len() != WIDTH {
-        return Write::IdentifierLength;
-    }
-    fit(WIDTH, room)
 }
 
 // EndpointDisconnect: refusals 20; 13.
 pub fn write_endpoint_disconnect(identifier: &[u8], out: &mut [u8]) -> Write
     ensures { λ r. ⌜ Spec.Writes (M.endpointDisconnect (now (identifier .entry))) (now (out .entry)) (now (out .exit)) (Spec.verdictOf r) ⌝ }
 {
-    let answer = fit_endpoint_disconnect(identifier, out.len());
-    if accepted(answer) {
-        putting::endpoint_disconnect(identifier, out);
+    let answer = fit(identifier.len(), true, WIDTH, out.len());
+    let count = count_of(answer);
+    if 0 < count {
+        putting::endpoint_disconnect(identifier, count, out);
     }
     answer
 }

@@ -1,3 +1,4 @@
+use mathlib.Core.Path.{_∙_}
 use Rattle.message.specs.Body as Spec
 use borrow.Author.Needs.{needs}
 use Rattle.message.proofs.bodies.endpoint_disconnect.Statement.{statement}
@@ -5,11 +6,7 @@ use Rattle.message.proofs.bodies.endpoint_disconnect.Tie as tie
 
 returns : tie.Need-returns
 unfolding Spec.endpointDisconnect
-returns c = rw (← (c .before .before .fixed .ensures), ← (c .before .complete .ensures), c .if1 .taken)
-
-returns-2 : tie.Need-returns-2
-unfolding Spec.endpointDisconnect
-returns-2 c = rw (← (c .before .before .fixed .ensures), ← (c .before .complete .ensures), c .if1 .left)
+returns c = c .ending .ensures ∙ rw (← (c .before .fixed .ensures))
 
 pub endpoint-disconnect-spec : {M : Type 1} → statement M
-endpoint-disconnect-spec = tie.close (tie.spec (λ c κs. search needs) (λ c κs. search needs) returns returns-2)
+endpoint-disconnect-spec = tie.close (tie.spec (λ c κs. search needs) (λ c κs. search needs) returns)

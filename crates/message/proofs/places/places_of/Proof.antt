@@ -1,34 +1,29 @@
+use mathlib.Core.Logic.{_⊎_, inl, inr}
+use mathlib.Core.Path.{sym, ap, _∙_}
+use Rattle.message.specs.Read.{answerOf}
+use Rattle.message.specs.Parts as Spec
+use Rattle.message.specs.declared.places.Places.{Places}
+use Rattle.message.specs.declared.reading.Read.{Read}
 use borrow.Author.Needs.{needs}
 use Rattle.message.proofs.places.places_of.Statement.{statement}
 use Rattle.message.proofs.places.places_of.Tie as tie
 
+abbrev placesOf : Read → Places
+placesOf r = Spec.places (answerOf r)
+
+either : {A B X : Type 0} → A ⊎ B → (A → X) → (B → X) → X
+either (inl a) f g = f a
+either (inr b) f g = g b
+
 returns : tie.Need-returns
-returns c = rw (c .enum-told .given .1)
+returns c = rw (c .before .before .read .given .1, ← (c .field-places .ensures))
 
 returns-2 : tie.Need-returns-2
-returns-2 c = rw (c .enum-told2 .given .1)
-
-returns-3 : tie.Need-returns-3
-returns-3 c = rw (c .enum-told3 .given .1)
-
-returns-4 : tie.Need-returns-4
-returns-4 c = rw (c .enum-told4 .given .1)
-
-returns-5 : tie.Need-returns-5
-returns-5 c = rw (c .before .before .read .given .1, ← (c .field-places .ensures))
+returns-2 c =
+    c .no-places .ensures
+    ∙ either (c .before .match .came) (λ m. ap placesOf (sym (m .1 .given .1))) (λ n.
+    either n (λ m. ap placesOf (sym (m .1 .given .1))) (λ o.
+    either o (λ m. ap placesOf (sym (m .1 .given .1))) (λ m. ap placesOf (sym (m .1 .given .1)))))
 
 pub places-of-spec : {M : Type 1} → statement M
-places-of-spec =
-    tie.close
-    (tie.spec
-    (λ c. search needs)
-    (λ c. search needs)
-    (λ c. search needs)
-    (λ c. search needs)
-    (λ c. search needs)
-    (λ c κs. search needs)
-    returns
-    returns-2
-    returns-3
-    returns-4
-    returns-5)
+places-of-spec = tie.close (tie.spec (λ c. search needs) (λ c. search needs) (λ c. search needs) (λ c. search needs) (λ c. search needs) (λ c κs. search needs) returns (λ c κs. search needs) returns-2)

@@ -1,34 +1,28 @@
-use mathlib.Core.Path.{sym, ap, _∙_}
 use denote.Ref.{now}
-use Rattle.message.specs.Write as Spec
+use lib.ListN.{length}
 use Rattle.message.specs.Message as M
-use Rattle.message.proofs.VerdictLaws.{output-written, output-refused}
+use Rattle.message.proofs.VerdictLaws.{profiles-verdict, counted, output-told, output-refused}
 use borrow.Author.Needs.{needs}
 use Rattle.message.proofs.writing.write_supported_profiles.Statement.{statement}
 use Rattle.message.proofs.writing.write_supported_profiles.Tie as tie
 
 supported-profiles-requires : tie.Need-supported-profiles-requires
 supported-profiles-requires c κs =
-    let a = c .before .before .before .before .before .before .args in
-    sym (ap Spec.accepts (c .before .before .before .fit-supported-profiles .ensures)) ∙ sym (c .before .before .accepted .ensures) ∙ c .before .if1 .taken
+    let a = c .before .before .before .before .before .before .before .args in
+    let e = profiles-verdict (length (now (a .out))) (a .version) (now (a .list)) (rw (c .before .before .before .before .within .ensures) at (c .before .before .before .fit .ensures)) in
+    counted e (c .before .before .count-of .ensures) (c .before .if1 .taken)
 
 returns : tie.Need-returns
 returns c =
-    let a = c .before .before .before .before .before .before .before .before .before .args in
-    (c .before .before .before .before .before .before .fit-supported-profiles .ensures, c .before .before .supported-profiles .ensures ∙ output-written (M.supportedProfiles (a .version) (now (a .list))) (now (a .out)) (sym (ap Spec.accepts (c .before .before .before .before .before .before .fit-supported-profiles .ensures)) ∙ sym (c .before .before .before .before .before .accepted .ensures) ∙ c .before .before .before .before .if1 .taken))
+    let a = c .before .before .before .before .before .before .before .before .before .before .args in
+    let e = profiles-verdict (length (now (a .out))) (a .version) (now (a .list)) (rw (c .before .before .before .before .before .before .before .within .ensures) at (c .before .before .before .before .before .before .fit .ensures)) in
+    (e, output-told (M.supportedProfiles (a .version) (now (a .list))) (now (a .out)) (counted e (c .before .before .before .before .before .count-of .ensures) (c .before .before .before .before .if1 .taken)) (c .before .before .supported-profiles .ensures))
 
 returns-2 : tie.Need-returns-2
 returns-2 c =
-    let a = c .before .before .before .before .before .args in
-    (c .before .before .fit-supported-profiles .ensures, output-refused (M.supportedProfiles (a .version) (now (a .list))) (now (a .out)) (sym (ap Spec.accepts (c .before .before .fit-supported-profiles .ensures)) ∙ sym (c .before .accepted .ensures) ∙ c .if1 .left))
+    let a = c .before .before .before .before .before .before .args in
+    let e = profiles-verdict (length (now (a .out))) (a .version) (now (a .list)) (rw (c .before .before .before .within .ensures) at (c .before .before .fit .ensures)) in
+    (e, output-refused (M.supportedProfiles (a .version) (now (a .list))) (now (a .out)) _ e (c .before .count-of .ensures) (c .if1 .left))
 
 pub write-supported-profiles-spec : {M : Type 1} → statement M
-write-supported-profiles-spec =
-    tie.close
-    (tie.spec
-    (λ c κs. search needs)
-    (λ c κs. search needs)
-    supported-profiles-requires
-    (λ c. search needs)
-    returns
-    returns-2)
+write-supported-profiles-spec = tie.close (tie.spec (λ c κs. search needs) (λ c. search needs) (λ c κs. search needs) (λ c κs. search needs) supported-profiles-requires (λ c. search needs) returns returns-2)
