@@ -70,27 +70,31 @@ fn unsupported_version(body: &[u8]) -> Body
     }
 }
 
-// The lengths are read once the body is known to hold them.
+// One test for all seven fields: where the last of them ends the body, each length octet stood inside it.
 fn media_keys(body: &[u8]) -> Body
     ensures { λ r. ⌜ Spec.contentOf r ≡ Spec.mediaKeys (now (body .entry)) ⌝ }
 {
-    let identifier = walking::fixed(body, WIDTH, BEGIN);
-    let profile = walking::fixed(body, 2, identifier);
-    let mki = walking::field8(body, 0, profile);
-    let client_key = walking::field8(body, 1, mki);
-    let server_key = walking::field8(body, 1, client_key);
-    let client_salt = walking::field8(body, 1, server_key);
-    let server_salt = walking::field8(body, 1, client_salt);
-    if walking::complete(body, server_salt) {
+    let mki = octets::octet(body, WIDTH + 2);
+    let client_key_at = WIDTH + 3 + mki as usize;
+    let client_key = octets::octet(body, client_key_at);
+    let server_key_at = client_key_at + 1 + client_key as usize;
+    let server_key = octets::octet(body, server_key_at);
+    let client_salt_at = server_key_at + 1 + server_key as usize;
+    let client_salt = octets::octet(body, client_salt_at);
+    let server_salt_at = client_salt_at + 1 + client_salt as usize;
+    let server_salt = octets::octet(body, server_salt_at);
+    let end = server_salt_at + 1 + server_salt as usize;
+    let some = (1 <= client_key) & (1 <= server_key) & (1 <= client_salt) & (1 <= server_salt);
+    if some & (end == body.len()) {
         Body::Good {
             fields: Fields::MediaKeys {
-                profile: octets::number16(body, identifier.at),
+                profile: octets::number16(body, WIDTH),
                 lengths: KeyLengths {
-                    mki: octets::octet(body, profile.at),
-                    client_key: octets::octet(body, mki.at),
-                    server_key: octets::octet(body, client_key.at),
-                    client_salt: octets::octet(body, server_key.at),
-                    server_salt: octets::octet(body, client_salt.at),
+                    mki,
+                    client_key,
+                    server_key,
+                    client_salt,
+                    server_salt,
                 },
             },
         }

@@ -35,14 +35,6 @@ pub fn fixed(body: &[u8], n: usize, w: Walk) -> Walk
     past(body.len(), true, n, w)
 }
 
-// A field of at least so many octets behind its length octet.
-pub fn field8(body: &[u8], least: u8, w: Walk) -> Walk
-    ensures { λ r. ⌜ r ≡ Spec.field8 (now (body .entry)) least w ⌝ }
-{
-    let n = octets::octet(body, w.at);
-    past(body.len(), least <= n, 1 + n as usize, w)
-}
-
 // A field of at least one octet behind its two length octets.
 pub fn field16(body: &[u8], w: Walk) -> Walk
     ensures { λ r. ⌜ r ≡ Spec.field16 (now (body .entry)) w ⌝ }

@@ -1,33 +1,61 @@
-use Rattle.message.specs.Body as Spec
+use denote.Ref.{now}
+use Rattle.message.proofs.KeyEnds.{one-test}
 use borrow.Author.Needs.{needs}
 use Rattle.message.proofs.bodies.media_keys.Statement.{statement}
 use Rattle.message.proofs.bodies.media_keys.Tie as tie
 
 returns : tie.Need-returns
-unfolding Spec.mediaKeys
-returns c = rw (← (c .before .before .before .before .before .before .before .before .before .before .before .before .before .before .fixed .ensures), ← (c .before .before .before .before .before .before .before .before .before .before .before .before .before .fixed2 .ensures), ← (c .before .before .before .before .before .before .before .before .before .before .before .before .field8 .ensures), ← (c .before .before .before .before .before .before .before .before .before .before .before .field82 .ensures), ← (c .before .before .before .before .before .before .before .before .before .before .field83 .ensures), ← (c .before .before .before .before .before .before .before .before .before .field84 .ensures), ← (c .before .before .before .before .before .before .before .before .field85 .ensures), ← (c .before .before .before .before .before .before .before .complete .ensures), c .before .before .before .before .before .before .if1 .taken, ← (c .before .before .before .before .before .number16 .ensures), ← (c .before .before .before .before .octet .ensures), ← (c .before .before .before .octet2 .ensures), ← (c .before .before .octet3 .ensures), ← (c .before .octet4 .ensures), ← (c .octet5 .ensures))
+returns c =
+    let b = c .before .before in
+    rw (
+      one-test (now (b .before .before .before .before .before .before .args .body)),
+      ← (b .before .before .before .before .octet .ensures),
+      ← (b .before .before .before .octet2 .ensures),
+      ← (b .before .before .octet3 .ensures),
+      ← (b .before .octet4 .ensures),
+      ← (b .octet5 .ensures),
+      c .before .if1 .taken,
+      ← (c .number16 .ensures),
+    )
 
 returns-2 : tie.Need-returns-2
-unfolding Spec.mediaKeys
-returns-2 c = rw (← (c .before .before .before .before .before .before .before .before .fixed .ensures), ← (c .before .before .before .before .before .before .before .fixed2 .ensures), ← (c .before .before .before .before .before .before .field8 .ensures), ← (c .before .before .before .before .before .field82 .ensures), ← (c .before .before .before .before .field83 .ensures), ← (c .before .before .before .field84 .ensures), ← (c .before .before .field85 .ensures), ← (c .before .complete .ensures), c .if1 .left)
+returns-2 c =
+    let b = c .before in
+    rw (
+      one-test (now (b .before .before .before .before .before .before .args .body)),
+      ← (b .before .before .before .before .octet .ensures),
+      ← (b .before .before .before .octet2 .ensures),
+      ← (b .before .before .octet3 .ensures),
+      ← (b .before .octet4 .ensures),
+      ← (b .octet5 .ensures),
+      c .if1 .left,
+    )
 
 pub media-keys-spec : {M : Type 1} → statement M
 media-keys-spec =
     tie.close
     (tie.spec
+    (λ c. search needs)
     (λ c κs. search needs)
+    (λ c. search needs)
+    (λ c. search needs)
+    (λ c. search needs)
     (λ c κs. search needs)
+    (λ c. search needs)
+    (λ c. search needs)
+    (λ c. search needs)
     (λ c κs. search needs)
+    (λ c. search needs)
+    (λ c. search needs)
+    (λ c. search needs)
     (λ c κs. search needs)
+    (λ c. search needs)
+    (λ c. search needs)
+    (λ c. search needs)
     (λ c κs. search needs)
-    (λ c κs. search needs)
-    (λ c κs. search needs)
-    (λ c κs. search needs)
-    (λ c κs. search needs)
-    (λ c κs. search needs)
-    (λ c κs. search needs)
-    (λ c κs. search needs)
-    (λ c κs. search needs)
+    (λ c. search needs)
+    (λ c. search needs)
+    (λ c. search needs)
     (λ c κs. search needs)
     returns
     returns-2)
