@@ -3,7 +3,7 @@
 
 use crate::table::{Received, Refusal, Table};
 
-pub const BLOCK: usize = 5510;
+pub const BLOCK: usize = 5638;
 pub const RECORD: usize = 168;
 
 const REFUSED: u64 = 1 << 32;

@@ -68,6 +68,28 @@ fn keys(i: usize, length: usize) -> Vec<u8> {
     )
 }
 
+/// Octets lent to calls, one piece behind another, in each run from another place of a page on: so
+/// no figure hangs on where they lie.
+struct Laid {
+    octets: Vec<u8>,
+    ends: Vec<usize>,
+}
+
+impl Laid {
+    fn new(pieces: impl Iterator<Item = Vec<u8>>, run: usize) -> Self {
+        let mut octets = vec![0; run * 64 % 4096];
+        let mut ends = vec![octets.len()];
+        for piece in pieces {
+            octets.extend(piece);
+            ends.push(octets.len());
+        }
+        Laid { octets, ends }
+    }
+    fn get(&self, i: usize) -> &[u8] {
+        &self.octets[self.ends[i]..self.ends[i + 1]]
+    }
+}
+
 /// ns per call: calls that change nothing, one state.
 fn still<T: Calls>(t: &mut T, mut call: impl FnMut(&mut T, usize) -> u64) -> f64 {
     let begin = Instant::now();
@@ -95,12 +117,13 @@ fn moving<T: Calls>(from: &T, mut call: impl FnMut(&mut T, usize) -> u64) -> f64
     total as f64 / (STATES * STRETCHES) as f64
 }
 
-fn once<T: Calls>(case: Case, live: usize) -> f64 {
+fn once<T: Calls>(case: Case, live: usize, run: usize) -> f64 {
     let mut t: T = prepared(live);
     let n = live.max(1);
-    let mut r = Random(live as u64);
-    // Which association each call is about: a live one, at random.
-    let who: Vec<usize> = (0..1024).map(|_| r.below(n)).collect();
+    let mut r = Random(run as u64);
+    // Which association each call is about: a live one, at random, in each run in another order, so
+    // that no processor learns it.
+    let who: Vec<usize> = (0..CALLS).map(|_| r.below(n)).collect();
     let at = |i: usize| who[i % who.len()];
     let ids: Vec<[u8; 16]> = (0..33).map(identifier).collect();
     let eps: Vec<u32> = (0..33).map(endpoint).collect();
@@ -116,25 +139,22 @@ fn once<T: Calls>(case: Case, live: usize) -> f64 {
         Case::Open if live == 32 => still(&mut t, |t, _| t.open(&ids[32], eps[32])),
         Case::Open => moving(&t, |t, _| t.open(&ids[32], eps[32])),
         Case::Packet(n) => {
-            let packet = vec![22; n];
+            let packet = Laid::new(std::iter::once(vec![22; n]), run);
             still(&mut t, |t, i| {
-                t.booth_packet(eps[at(i)], black_box(&packet), &mut out)
+                t.booth_packet(eps[at(i)], black_box(packet.get(0)), &mut out)
             })
         }
         Case::Keys(length) => {
-            let m: Vec<Vec<u8>> = (0..n).map(|i| keys(i, length)).collect();
-            still(&mut t, |t, i| t.tunnel_octets(&m[at(i)], &mut more))
+            let m = Laid::new((0..n).map(|i| keys(i, length)), run);
+            still(&mut t, |t, i| t.tunnel_octets(m.get(at(i)), &mut more))
         }
         Case::Delivery => {
-            let m: Vec<Vec<u8>> = ids
-                .iter()
-                .map(|id| tunneled_dtls(id, &[22; 1200]))
-                .collect();
-            still(&mut t, |t, i| t.tunnel_octets(&m[at(i)], &mut more))
+            let m = Laid::new(ids.iter().map(|id| tunneled_dtls(id, &[22; 1200])), run);
+            still(&mut t, |t, i| t.tunnel_octets(m.get(at(i)), &mut more))
         }
         Case::Disconnect => {
-            let m: Vec<Vec<u8>> = ids.iter().map(|id| message(5, id)).collect();
-            moving(&t, |t, i| t.tunnel_octets(&m[at(i)], &mut more))
+            let m = Laid::new(ids.iter().map(|id| message(5, id)), run);
+            moving(&t, |t, i| t.tunnel_octets(m.get(at(i)), &mut more))
         }
         Case::Version => moving(&t, |t, _| {
             t.tunnel_octets(black_box(&[2, 0, 1, 3]), &mut more)
@@ -217,9 +237,9 @@ fn main() {
     } in rows
     {
         let (mut a, mut b) = (vec![], vec![]);
-        for _ in 0..RUNS {
-            a.push(once::<Rattle>(case, live));
-            b.push(once::<Rust>(case, live));
+        for run in 0..RUNS {
+            a.push(once::<Rattle>(case, live, run));
+            b.push(once::<Rust>(case, live, run));
         }
         let (a, b) = (median(a), median(b));
         println!(

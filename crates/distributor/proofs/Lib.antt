@@ -1,6 +1,7 @@
 pub mod CheckLaws
 pub mod LoopLaws
 pub mod PadLaws
+pub mod EndsLaws
 pub mod RowWriting
 pub mod ArrayLaws
 pub mod ReceivingLaws

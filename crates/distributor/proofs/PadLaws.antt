@@ -8,9 +8,9 @@ use native.Mathlib.Numerals.{add-one}
 use lib.ListN.{drop, drop-of-length-le, getD, length, length-replicate, length-take, replicate, set, take}
 use lib.Seq.{drop-drop, paste, paste-suc, take-all}
 use Rattle.octets.specs.Part.{part}
-use Rattle.octets.specs.Write.{over, put}
+use Rattle.octets.specs.Write.{over}
 use Rattle.octets.proofs.PartLaws.{part-front}
-use Rattle.octets.proofs.WriteLaws.{over-front, over-length, put-whole}
+use Rattle.octets.proofs.WriteLaws.{over-front}
 use Rattle.rules.specs.Layout.{padded}
 
 zeros : (n i : ℕ) → getD {A = ℕ} (replicate n 0) i 0 ≡ 0
@@ -52,15 +52,13 @@ padded-take (x ∷ s) (suc n) m = ap (λ (z : List ℕ). x ∷ z) (padded-take s
 
 -- zeros, and octets over their front
 pub padded-over : (d x p s : List ℕ) (at n : ℕ) → at + n ≤ length d → x ≡ over d at (replicate n 0) → p ≡ part s 0 n
-    → put x at p ≡ over d at (padded n s)
+    → over x at p ≡ over d at (padded n s)
 unfolding padded
 padded-over d x p s at n h e f =
     let q = take n s in
     let z = length-replicate {A = ℕ} n 0 in
     let k : length q ≤ n = omega (arith, length-take n s) in
-    let l : length x ≡ length d = ap length e ∙ over-length d at (replicate n 0) (omega arith) in
-    rw (f ∙ part-front s n) (put-whole x at q (omega arith)
-    ∙ ap (λ (y : List ℕ). over y at q) e
+    rw (f ∙ part-front s n) (ap (λ (y : List ℕ). over y at q) e
     ∙ over-front d (replicate n 0) q at (omega arith) (omega arith)
     ∙ ap (over d at) (sym (padded-front q n n k (le-refl n)) ∙ padded-take s n n))
 

@@ -15,21 +15,14 @@ pub const KEY_LIMIT: usize = 32;
 
 pub const LIST_LIMIT: usize = 4;
 
-// The tunnel, its profile list behind a length octet, the rows.
-pub const TUNNEL: usize = 0;
-
-pub const LIST: usize = 1;
-
-pub const ROWS: usize = LIST + 1 + LIST_LIMIT;
-
-// In a row: state, identifier, endpoint, profile; then each field behind a length octet.
-pub const STATE: usize = 0;
-
-pub const IDENTIFIER: usize = 1;
+// In a row: identifier, endpoint, state, profile; then each field behind a length octet; zeros to the end.
+pub const IDENTIFIER: usize = 0;
 
 pub const ENDPOINT: usize = IDENTIFIER + WIDTH;
 
-pub const PROFILE: usize = ENDPOINT + 4;
+pub const STATE: usize = ENDPOINT + 4;
+
+pub const PROFILE: usize = STATE + 1;
 
 pub const MKI: usize = PROFILE + 2;
 
@@ -41,10 +34,16 @@ pub const CLIENT_SALT: usize = SERVER_KEY + 1 + KEY_LIMIT;
 
 pub const SERVER_SALT: usize = CLIENT_SALT + 1 + SALT_LIMIT as usize;
 
-pub const ROW: usize = SERVER_SALT + 1 + SALT_LIMIT as usize;
+// A multiple of 16, so that no identifier lies across two lines of a cache.
+pub const ROW: usize = SERVER_SALT + 1 + SALT_LIMIT as usize + 4;
+
+// The rows, the tunnel, its profile list behind a length octet.
+pub const TUNNEL: usize = PLACES * ROW;
+
+pub const LIST: usize = TUNNEL + 1;
 
 // The length of a block.
-pub const BLOCK: usize = ROWS + PLACES * ROW;
+pub const BLOCK: usize = LIST + 1 + LIST_LIMIT;
 
 pub fn is_up(state: &[u8]) -> bool
     ensures { λ r. ⌜ r ≡ Spec.up (now (state .entry)) ⌝ }
@@ -57,6 +56,6 @@ pub(crate) fn row_at(state: &[u8], place: usize) -> &[u8]
     requires { ⌜ (length (now state) ≡ Spec.blockLength) × (place < Limits.places) ⌝ }
     ensures { λ r. ⌜ now r ≡ Spec.rowOf (now (state .entry)) place ⌝ }
 {
-    let start = ROWS + place * ROW;
+    let start = place * ROW;
     &state[start..start + ROW]
 }

@@ -16,13 +16,37 @@ fn put_zeros(out: &mut [u8], at: usize, n: usize)
     }
 }
 
+// The first n octets of s and the last n, which may overlap.
+fn put_ends(out: &mut [u8], at: usize, n: usize, s: &[u8])
+    requires { ⌜ (at + length (now s) ≤ length (now out)) × (n ≤ length (now s)) × (length (now s) ≤ n + n) ⌝ }
+    ensures { λ _. ⌜ now (out .exit) ≡ over (now (out .entry)) at (now (s .entry)) ⌝ }
+{
+    let last = s.len() - n;
+    octets::put_octets(out, at, &s[0..n]);
+    octets::put_octets(out, at + last, &s[last..]);
+}
+
+// A copy. The lengths that key fields have go in two moves of a length that a compiler knows, without a call.
+fn put_short(out: &mut [u8], at: usize, s: &[u8])
+    requires { ⌜ at + length (now s) ≤ length (now out) ⌝ }
+    ensures { λ _. ⌜ now (out .exit) ≡ over (now (out .entry)) at (now (s .entry)) ⌝ }
+{
+    if octets::within(16, 32, s.len()) {
+        put_ends(out, at, 16, s);
+    } else if octets::within(8, 16, s.len()) {
+        put_ends(out, at, 8, s);
+    } else {
+        octets::put_octets(out, at, s);
+    }
+}
+
 // The first n octets of s from a place on, with zeros behind where there are fewer.
 pub(crate) fn put_padded(out: &mut [u8], at: usize, n: usize, s: &[u8])
     requires { ⌜ at + n ≤ length (now out) ⌝ }
     ensures { λ _. ⌜ now (out .exit) ≡ over (now (out .entry)) at (Spec.padded n (now (s .entry))) ⌝ }
 {
     put_zeros(out, at, n);
-    octets::put_octets(out, at, octets::part(s, 0, n));
+    put_short(out, at, octets::part(s, 0, n));
 }
 
 // A length octet and the padded field behind it.

@@ -36,8 +36,5 @@ pub fn is_named(row: &[u8], identifier: &[u8]) -> bool
 pub fn is_serving(row: &[u8], endpoint: u32) -> bool
     ensures { λ r. ⌜ r ≡ Spec.serving endpoint (now (row .entry)) ⌝ }
 {
-    if endpoint_of(row) == endpoint {
-        return is_live(row);
-    }
-    false
+    is_live(row) & (endpoint_of(row) == endpoint)
 }

@@ -3,7 +3,6 @@ use crate::block::BLOCK;
 use crate::block::LIST;
 use crate::block::LIST_LIMIT;
 use crate::block::ROW;
-use crate::block::ROWS;
 use crate::block::TUNNEL;
 use crate::padding::put_field;
 use crate::padding::put_padded;
@@ -21,7 +20,7 @@ pub(crate) fn put_open(state: &mut [u8], place: usize, identifier: &[u8], endpoi
     requires { ⌜ (length (now state) ≡ Spec.blockLength) × (place < places) ⌝ }
     ensures { λ _. ⌜ now (state .exit) ≡ Spec.withRow (now (state .entry)) place (Spec.openRow (now (identifier .entry)) endpoint) ⌝ }
 {
-    let start = ROWS + place * ROW;
+    let start = place * ROW;
     let end = start + ROW;
     open_row(&mut state[start..end], identifier, endpoint);
 }
@@ -30,7 +29,7 @@ pub(crate) fn put_keys(state: &mut [u8], place: usize, s: &[u8], profile: u16, l
     requires { ⌜ (length (now state) ≡ Spec.blockLength) × (place < places) ⌝ }
     ensures { λ _. ⌜ now (state .exit) ≡ Spec.withRow (now (state .entry)) place (Spec.keyedRow (keysIn (now (s .entry)) profile lengths) (Spec.rowOf (now (state .entry)) place)) ⌝ }
 {
-    let start = ROWS + place * ROW;
+    let start = place * ROW;
     let end = start + ROW;
     key_row(&mut state[start..end], s, profile, lengths);
 }
@@ -39,7 +38,7 @@ pub(crate) fn put_vacant(state: &mut [u8], place: usize)
     requires { ⌜ (length (now state) ≡ Spec.blockLength) × (place < places) ⌝ }
     ensures { λ _. ⌜ now (state .exit) ≡ Spec.withRow (now (state .entry)) place Spec.vacantRow ⌝ }
 {
-    put_padded(state, ROWS + place * ROW, ROW, b"");
+    put_padded(state, place * ROW, ROW, b"");
 }
 
 // Tunnel down, table empty.
@@ -55,7 +54,7 @@ pub(crate) fn put_up(state: &mut [u8], list: &[u8])
     requires { ⌜ (length (now state) ≡ Spec.blockLength) × (length (now list) ≤ listLimit) ⌝ }
     ensures { λ _. ⌜ now (state .exit) ≡ Spec.upBlock (now (list .entry)) ⌝ }
 {
+    put_padded(state, 0, TUNNEL, b"");
     octets::put_octet(state, TUNNEL, 1);
     put_field(state, LIST, LIST_LIMIT, list);
-    put_padded(state, ROWS, BLOCK - ROWS, b"");
 }

@@ -30,10 +30,10 @@ pub(crate) fn open_row(row: &mut [u8], identifier: &[u8], endpoint: u32)
     requires { ⌜ length (now row) ≡ Spec.rowLength ⌝ }
     ensures { λ _. ⌜ now (row .exit) ≡ Spec.openRow (now (identifier .entry)) endpoint ⌝ }
 {
-    octets::put_octet(row, STATE, 1);
     put_padded(row, IDENTIFIER, WIDTH, identifier);
     octets::put_number16(row, ENDPOINT, (endpoint / 65536) as u16);
     octets::put_number16(row, ENDPOINT + 2, (endpoint % 65536) as u16);
+    octets::put_octet(row, STATE, 1);
     put_padded(row, PROFILE, ROW - PROFILE, b"");
 }
 

@@ -47,19 +47,23 @@ chunks-over (suc k) w l v (suc i) h e g =
     rw (put-suc w i v l, take-at (take w l) x w a, drop-at (take w l) x w a)
     (ap (λ (r : List (List ℕ)). take w l ∷ r) (chunks-over k w (drop w l) v i (le-of-suc-le-suc h) e b))
 
--- ---- all of one element
+-- ---- of one element, with others behind
 
-pub replicate-take : (w n x : ℕ) → take w (replicate (w + n) x) ≡ replicate w x
-replicate-take zero n x = refl
-replicate-take (suc w) n x = rw (suc-add w n) (ap (λ (l : List ℕ). x ∷ l) (replicate-take w n x))
+replicate-take : (w n x : ℕ) (q : List ℕ) → take w (replicate (w + n) x ++ q) ≡ replicate w x
+replicate-take zero n x q = refl
+replicate-take (suc w) n x q = rw (suc-add w n) (ap (λ (l : List ℕ). x ∷ l) (replicate-take w n x q))
 
-pub replicate-drop : (w n x : ℕ) → drop w (replicate (w + n) x) ≡ replicate n x
-replicate-drop zero n x = rw zero-add
-replicate-drop (suc w) n x = rw (suc-add w n) (replicate-drop w n x)
+replicate-drop : (w n x : ℕ) (q : List ℕ) → drop w (replicate (w + n) x ++ q) ≡ replicate n x ++ q
+replicate-drop zero n x q = rw zero-add
+replicate-drop (suc w) n x q = rw (suc-add w n) (replicate-drop w n x q)
 
-pub chunks-replicate : (k w x : ℕ) → chunks k w (replicate (k * w) x) ≡ replicate k (replicate w x)
+pub chunks-replicate : (k w x : ℕ) (q : List ℕ) → chunks k w (replicate (k * w) x ++ q) ≡ replicate k (replicate w x)
 unfolding chunks
-chunks-replicate zero w x = refl
-chunks-replicate (suc k) w x =
-    rw (suc-mul, add-comm (k * w) w, replicate-take w (k * w) x, replicate-drop w (k * w) x)
-    (ap (λ (l : List (List ℕ)). replicate w x ∷ l) (chunks-replicate k w x))
+chunks-replicate zero w x q = refl
+chunks-replicate (suc k) w x q =
+    rw (suc-mul, add-comm (k * w) w, replicate-take w (k * w) x q, replicate-drop w (k * w) x q)
+    (ap (λ (l : List (List ℕ)). replicate w x ∷ l) (chunks-replicate k w x q))
+
+pub replicate-add : (n m x : ℕ) → replicate (n + m) x ≡ replicate n x ++ replicate m x
+replicate-add zero m x = rw zero-add
+replicate-add (suc n) m x = rw (suc-add n m) (ap (λ (l : List ℕ). x ∷ l) (replicate-add n m x))

@@ -2,6 +2,7 @@ pub mod ViewSteps
 pub mod SearchLaws
 pub mod ChunkLaws
 pub mod FieldLaws
+pub mod FrontLaws
 pub mod RowsLaws
 pub mod RowLaws
 pub mod TunnelLaws

@@ -11,30 +11,19 @@ use Rattle.message.specs.Limits.{width, mkiLimit, saltLimit}
 use Rattle.rules.specs.Limits.{places, keyLimit, listLimit}
 use Rattle.rules.specs.Keys.{Keys}
 
--- ---- places in the block: the tunnel (0 down, else up), its profile list behind a length octet, the rows
-
-abbrev pub tunnelAt : ℕ
-tunnelAt = 0
-
-abbrev pub listAt : ℕ
-listAt = 1
-
-abbrev pub rowsAt : ℕ
-rowsAt = listAt + 1 + listLimit
-
--- ---- places in a row: state (0 vacant, 1 open, else keyed), identifier, endpoint, profile; then each field behind a length octet, padded with zeros
-
-abbrev pub stateAt : ℕ
-stateAt = 0
+-- ---- places in a row: identifier, endpoint, state (0 vacant, 1 open, else keyed), profile; then each field behind a length octet, padded with zeros; zeros to the end
 
 abbrev pub identifierAt : ℕ
-identifierAt = 1
+identifierAt = 0
 
 abbrev pub endpointAt : ℕ
 endpointAt = identifierAt + width
 
+abbrev pub stateAt : ℕ
+stateAt = endpointAt + 4
+
 abbrev pub profileAt : ℕ
-profileAt = endpointAt + 4
+profileAt = stateAt + 1
 
 abbrev pub mkiAt : ℕ
 mkiAt = profileAt + 2
@@ -51,11 +40,23 @@ clientSaltAt = serverKeyAt + 1 + keyLimit
 abbrev pub serverSaltAt : ℕ
 serverSaltAt = clientSaltAt + 1 + saltLimit
 
+abbrev pub spareAt : ℕ
+spareAt = serverSaltAt + 1 + saltLimit
+
+-- a multiple of 16, so that no identifier lies across two lines of a cache
 abbrev pub rowLength : ℕ
-rowLength = serverSaltAt + 1 + saltLimit
+rowLength = spareAt + 4
+
+-- ---- places in the block: the rows, the tunnel (0 down, else up), its profile list behind a length octet
+
+abbrev pub tunnelAt : ℕ
+tunnelAt = places * rowLength
+
+abbrev pub listAt : ℕ
+listAt = tunnelAt + 1
 
 abbrev pub blockLength : ℕ
-blockLength = rowsAt + places * rowLength
+blockLength = listAt + 1 + listLimit
 
 -- ---- reading
 
@@ -75,7 +76,7 @@ chunks zero n l = []
 chunks (suc k) n l = take n l ∷ chunks k n (drop n l)
 
 unfoldable pub rows : List ℕ → List (List ℕ)
-rows s = chunks places rowLength (drop rowsAt s)
+rows s = chunks places rowLength s
 
 unfoldable pub rowOf : List ℕ → (place : ℕ) → List ℕ
 rowOf s place = getD (rows s) place []
@@ -129,17 +130,17 @@ unfoldable pub vacantRow : List ℕ
 vacantRow = replicate rowLength 0
 
 unfoldable pub openRow : List ℕ → ℕ → List ℕ
-openRow identifier endpoint = (1 ∷ padded width identifier) ++ octetsOf32 endpoint ++ replicate (rowLength - profileAt) 0
+openRow identifier endpoint = padded width identifier ++ octetsOf32 endpoint ++ (1 ∷ []) ++ replicate (rowLength - profileAt) 0
 
 -- a row with all its key fields replaced
 unfoldable pub keyedRow : Keys → List ℕ → List ℕ
 keyedRow k r =
-    (2 ∷ part r identifierAt profileAt) ++ octetsOf16 (k .profile) ++ field mkiLimit (k .mki) ++ field keyLimit (k .clientKey)
-    ++ field keyLimit (k .serverKey) ++ field saltLimit (k .clientSalt) ++ field saltLimit (k .serverSalt)
+    take stateAt r ++ (2 ∷ []) ++ octetsOf16 (k .profile) ++ field mkiLimit (k .mki) ++ field keyLimit (k .clientKey)
+    ++ field keyLimit (k .serverKey) ++ field saltLimit (k .clientSalt) ++ field saltLimit (k .serverSalt) ++ drop spareAt r
 
 -- the block with another row at a place
 unfoldable pub withRow : List ℕ → (place : ℕ) → List ℕ → List ℕ
-withRow s place r = over s (rowsAt + place * rowLength) r
+withRow s place r = over s (place * rowLength) r
 
 -- tunnel down, table empty: the first state
 unfoldable pub downBlock : List ℕ
@@ -147,4 +148,4 @@ downBlock = replicate blockLength 0
 
 -- tunnel up with a profile list, table empty
 unfoldable pub upBlock : List ℕ → List ℕ
-upBlock list = (1 ∷ field listLimit list) ++ replicate (places * rowLength) 0
+upBlock list = replicate tunnelAt 0 ++ (1 ∷ field listLimit list)

@@ -1,13 +1,26 @@
-use mathlib.Core.Path.{_∙_}
+use Prim.Native.Nat.{_≤_}
+use mathlib.Core.Path.{_≡_, ap, _∙_}
+use native.Mathlib.Omega.{arith}
+use lib.ListN.{length, length-take}
 use denote.Ref.{now}
-use borrow.Author.Needs.{needs}
+use Rattle.octets.proofs.PartLaws.{part-front}
 use Rattle.distributor.proofs.PadLaws.{padded-over}
+use borrow.Author.Needs.{needs}
 use Rattle.distributor.proofs.padding.put_padded.Statement.{statement}
 use Rattle.distributor.proofs.padding.put_padded.Tie as tie
 
+put-short-requires : tie.Need-put-short-requires
+put-short-requires c κs =
+    let a = c .before .before .before .before .before .before .before .before .args in
+    let p = ap length (c .part .ensures ∙ part-front (now (a .s)) (a .n)) ∙ length-take (a .n) (now (a .s)) in
+    omega (arith, c .before .before .before .before .before .before .before .before .pre)
+
 returns : tie.Need-returns
 returns c =
-    c .before .before .put-octets .ensures .1 ∙ padded-over (now (c .before .before .before .before .before .before .before .before .before .before .before .args .out)) _ _ (now (c .before .before .before .before .before .before .before .before .before .before .before .args .s)) (c .before .before .before .before .before .before .before .before .before .before .before .args .at) (c .before .before .before .before .before .before .before .before .before .before .before .args .n) (c .before .before .before .before .before .before .before .before .before .before .before .pre) (c .before .before .before .before .before .before .before .put-zeros .ensures) (c .before .before .before .part .ensures)
+    let a = c .before .before .before .before .before .before .before .before .before .before .before .args in
+    c .before .before .put-short .ensures
+    ∙ padded-over (now (a .out)) _ _ (now (a .s)) (a .at) (a .n) (c .before .before .before .before .before .before .before .before .before .before .before .pre) (c .before .before .before .before .before .before .before .put-zeros .ensures) (c .before .before .before .part .ensures)
 
 pub put-padded-spec : {M : Type 1} → statement M
-put-padded-spec = tie.close (tie.spec (λ c κs. search needs) (λ c κs. search needs) (λ c κs. search needs) (λ c. search needs) returns)
+put-padded-spec =
+    tie.close (tie.spec (λ c κs. search needs) (λ c κs. search needs) put-short-requires (λ c. search needs) returns)

@@ -11,7 +11,7 @@ use Rattle.distributor.proofs.PadLaws.{lent-back}
 use Rattle.rules.proofs.RowLaws.{keyed-row-length}
 use Rattle.rules.proofs.RowsLaws.{row-part, row-length}
 use lib.ListN.{take}
-use Rattle.rules.specs.Layout.{rowsAt, rowLength}
+use Rattle.rules.specs.Layout.{rowLength}
 use Rattle.rules.proofs.RowsLaws.{Legal}
 use borrow.Author.Needs.{needs}
 use Rattle.distributor.proofs.storing.put_keys.Statement.{statement}
@@ -22,7 +22,7 @@ unfolding L.withRow part
 returns c =
     let a = c .before .before .before .before .before .before .args in
     let s = now (a .state) in
-    let at = rowsAt + a .place * rowLength in
+    let at = a .place * rowLength in
     let k = keysIn (now (a .s)) (a .profile) (a .lengths) in
     let g : Legal s = record { size = c .before .before .before .before .before .before .pre .0 } in
     let row : take (at + rowLength - at) (drop at s) ≡ L.rowOf s (a .place) = sym (row-part s (a .place) (c .before .before .before .before .before .before .pre .1)) in
@@ -33,7 +33,6 @@ pub put-keys-spec : {M : Type 1} → statement M
 put-keys-spec =
     tie.close
     (tie.spec
-    (λ c. search needs)
     (λ c. search needs)
     (λ c. search needs)
     (λ c. search needs)

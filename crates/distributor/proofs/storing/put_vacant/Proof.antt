@@ -5,7 +5,7 @@ use Rattle.rules.specs.Layout as L
 use borrow.Author.Needs.{needs}
 use Rattle.octets.specs.Write.{over}
 use Rattle.distributor.proofs.PadLaws.{padded-none}
-use Rattle.rules.specs.Layout.{rowsAt, rowLength}
+use Rattle.rules.specs.Layout.{rowLength}
 use borrow.Author.Needs.{needs}
 use Rattle.distributor.proofs.storing.put_vacant.Statement.{statement}
 use Rattle.distributor.proofs.storing.put_vacant.Tie as tie
@@ -14,13 +14,12 @@ returns : tie.Need-returns
 unfolding L.withRow L.vacantRow
 returns c =
     let a = c .before .before .before .before .before .before .args in
-    c .before .before .put-padded .ensures ∙ ap (over (now (a .state)) (rowsAt + a .place * rowLength)) (padded-none rowLength)
+    c .before .before .put-padded .ensures ∙ ap (over (now (a .state)) (a .place * rowLength)) (padded-none rowLength)
 
 pub put-vacant-spec : {M : Type 1} → statement M
 put-vacant-spec =
     tie.close
     (tie.spec
-    (λ c. search needs)
     (λ c. search needs)
     (λ c. search needs)
     (λ c κs. search needs)

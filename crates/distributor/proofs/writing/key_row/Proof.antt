@@ -9,6 +9,7 @@ use borrow.Author.Needs.{needs}
 use Rattle.octets.proofs.WriteLaws.{wrote-none, wrote-over, wrote-more}
 use Rattle.octets.specs.Number.{octets16}
 use Rattle.octets.specs.Part.{part}
+use Rattle.octets.proofs.PartLaws.{part-front, part-tail}
 use Rattle.octets.specs.Bounds.{partIn}
 use Rattle.message.specs.Limits.{mkiLimit, saltLimit}
 use Rattle.message.specs.Parts.{keyPlaces}
@@ -18,7 +19,7 @@ use Rattle.rules.proofs.FieldLaws.{field-length}
 use Rattle.distributor.proofs.RowWriting.{wrote-at, wrote-keep, wrote-all, octets-of-16}
 use Rattle.rules.proofs.KeysRoom.{part-room}
 use lib.ListN.{length-append}
-use Rattle.rules.specs.Layout.{rowLength, identifierAt, profileAt, mkiAt, clientKeyAt, serverKeyAt, clientSaltAt, serverSaltAt}
+use Rattle.rules.specs.Layout.{rowLength, stateAt, profileAt, mkiAt, clientKeyAt, serverKeyAt, clientSaltAt, serverSaltAt, spareAt}
 use borrow.Author.Needs.{needs}
 use Rattle.distributor.proofs.writing.key_row.Statement.{statement}
 use Rattle.distributor.proofs.writing.key_row.Tie as tie
@@ -62,16 +63,18 @@ returns c =
     let k = keyPlaces (a .lengths) in
     let n : length o ≡ rowLength = c .before .before .before .before .before .before .before .before .before .before .before .before .before .before .before .before .before .before .before .before .before .before .before .before .before .before .before .before .before .before .before .pre in
     let places = c .before .before .before .before .before .before .before .before .before .before .before .before .before .before .before .before .before .before .before .before .before .before .before .before .before .before .before .before .key-places .ensures in
-    let w0 = wrote-at (wrote-more (2 ∷ []) (wrote-none o) (omega arith) (c .before .before .before .before .before .before .before .before .before .before .before .before .before .before .before .before .before .before .before .before .before .before .before .before .before .before .put-octet .ensures .0) (c .before .before .before .before .before .before .before .before .before .before .before .before .before .before .before .before .before .before .before .before .before .before .before .before .before .before .put-octet .ensures .1)) identifierAt refl in
-    let w1 = wrote-keep w0 profileAt (omega arith) (omega arith) in
-    let m1 : length ((2 ∷ []) ++ part o identifierAt profileAt) ≡ profileAt = sym (w1 .place) in
+    let w0 = wrote-keep (wrote-none o) stateAt (omega arith) (omega arith) in
+    let m0 : length (part o 0 stateAt) ≡ stateAt = sym (w0 .place) in
+    let w1 = wrote-at (wrote-more (2 ∷ []) w0 (omega arith) (c .before .before .before .before .before .before .before .before .before .before .before .before .before .before .before .before .before .before .before .before .before .before .before .before .before .before .put-octet .ensures .0) (c .before .before .before .before .before .before .before .before .before .before .before .before .before .before .before .before .before .before .before .before .before .before .before .before .before .before .put-octet .ensures .1)) profileAt (rw (length-append, m0)) in
+    let m1 : length (part o 0 stateAt ++ (2 ∷ [])) ≡ profileAt = sym (w1 .place) in
     let w2 = wrote-at (wrote-more (octets16 (a .profile)) w1 (omega arith) (c .before .before .before .before .before .before .before .before .before .before .before .before .before .before .before .before .before .before .before .before .before .before .put-number16 .ensures .0) (c .before .before .before .before .before .before .before .before .before .before .before .before .before .before .before .before .before .before .before .before .before .before .put-number16 .ensures .1)) mkiAt (rw (length-append, m1)) in
     let w3 = wrote-over {r = clientKeyAt} (L.field mkiLimit (partIn s (k .mki))) w2 (omega (arith, field-length mkiLimit (partIn s (k .mki)))) (rw (c .before .before .before .before .before .before .before .before .before .before .before .before .before .before .before .before .before .before .before .before .before .before .before .before .before .before .before .before .key-places .ensures) at (c .before .before .before .before .before .before .before .before .before .before .before .before .before .before .before .before .before .before .put-part .ensures)) in
     let w4 = wrote-over {r = serverKeyAt} (L.field keyLimit (partIn s (k .«client_key»))) w3 (omega (arith, field-length keyLimit (partIn s (k .«client_key»)))) (rw (c .before .before .before .before .before .before .before .before .before .before .before .before .before .before .before .before .before .before .before .before .before .before .before .before .before .before .before .before .key-places .ensures) at (c .before .before .before .before .before .before .before .before .before .before .before .before .before .before .put-part2 .ensures)) in
     let w5 = wrote-over {r = clientSaltAt} (L.field keyLimit (partIn s (k .«server_key»))) w4 (omega (arith, field-length keyLimit (partIn s (k .«server_key»)))) (rw (c .before .before .before .before .before .before .before .before .before .before .before .before .before .before .before .before .before .before .before .before .before .before .before .before .before .before .before .before .key-places .ensures) at (c .before .before .before .before .before .before .before .before .before .before .put-part3 .ensures)) in
     let w6 = wrote-over {r = serverSaltAt} (L.field saltLimit (partIn s (k .«client_salt»))) w5 (omega (arith, field-length saltLimit (partIn s (k .«client_salt»)))) (rw (c .before .before .before .before .before .before .before .before .before .before .before .before .before .before .before .before .before .before .before .before .before .before .before .before .before .before .before .before .key-places .ensures) at (c .before .before .before .before .before .before .put-part4 .ensures)) in
-    let w7 = wrote-over {r = rowLength} (L.field saltLimit (partIn s (k .«server_salt»))) w6 (omega (arith, field-length saltLimit (partIn s (k .«server_salt»)))) (rw (c .before .before .before .before .before .before .before .before .before .before .before .before .before .before .before .before .before .before .before .before .before .before .before .before .before .before .before .before .key-places .ensures) at (c .before .before .put-part5 .ensures)) in
-    wrote-all w7 (sym n) ∙ rw (octets-of-16 (a .profile) (omega (arith, c .before .before .before .before .before .before .before .before .before .before .before .before .before .before .before .before .before .before .before .before .before .before .before .before .before .before .before .before .before .before .before .fits)))
+    let w7 = wrote-over {r = spareAt} (L.field saltLimit (partIn s (k .«server_salt»))) w6 (omega (arith, field-length saltLimit (partIn s (k .«server_salt»)))) (rw (c .before .before .before .before .before .before .before .before .before .before .before .before .before .before .before .before .before .before .before .before .before .before .before .before .before .before .before .before .key-places .ensures) at (c .before .before .put-part5 .ensures)) in
+    let w8 = wrote-keep w7 rowLength (omega arith) (omega arith) in
+    wrote-all w8 (sym n) ∙ rw (part-front o stateAt, part-tail o spareAt rowLength (omega arith), octets-of-16 (a .profile) (omega (arith, c .before .before .before .before .before .before .before .before .before .before .before .before .before .before .before .before .before .before .before .before .before .before .before .before .before .before .before .before .before .before .before .fits)))
 
 pub key-row-spec : {M : Type 1} → statement M
 key-row-spec =
