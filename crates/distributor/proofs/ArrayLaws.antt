@@ -6,12 +6,12 @@ use mathlib.Core.List.{List, [], append-nil}
 use native.Mathlib.Omega.{arith}
 use native.Mathlib.Nat.{le-refl}
 use lib.Dec.{leb}
-use lib.ListN.{length, length-replicate, length-take, length-drop, replicate, take, drop, drop-of-length-le, take-append-drop}
+use lib.ListN.{length, length-take, replicate, take, drop, drop-of-length-le, take-append-drop}
 use lib.Seq.{take-add, take-all, take-nil, length-take-le}
-use borrow.Author.Tests.{le-leb, leb-true, leb-false}
+use borrow.Author.Tests.{leb-true, leb-false}
 use Rattle.octets.specs.Part.{part}
 use Rattle.octets.specs.Write.{over, put}
-use Rattle.octets.proofs.PartLaws.{part-tail, part-front}
+use Rattle.octets.proofs.PartLaws.{part-tail}
 use Rattle.octets.proofs.WriteLaws.{over-over, over-length, put-whole}
 use Rattle.rules.specs.Layout.{padded}
 use Rattle.distributor.proofs.PadLaws.{padded-front}
@@ -48,10 +48,6 @@ module _ (z t x : List ℕ) (i k : ℕ) (room : i + k ≤ length z) (e : x ≡ o
       let l : length x ≡ length z = ap length e ∙ over-length z 0 (take i t) (omega (arith, length-take i t)) in
       let g : p ≡ q = rw n at f in
       w ∙ ap (put x i) g ∙ put-whole x i q (omega (arith, length-take k (drop i t))) ∙ more-over
-
--- none yet
-pub none-put : (z t : List ℕ) → z ≡ over z 0 (take 0 t)
-none-put z t = refl
 
 -- octets at the front of n zeros
 padded-over : (n : ℕ) (p : List ℕ) → length p ≤ n → over (replicate n 0) 0 p ≡ padded n p

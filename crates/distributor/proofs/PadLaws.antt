@@ -6,12 +6,12 @@ use native.Mathlib.Omega.{arith}
 use native.Mathlib.Nat.{le-of-eq, le-refl}
 use native.Mathlib.Numerals.{add-one}
 use lib.ListN.{drop, drop-of-length-le, getD, length, length-replicate, length-take, replicate, set, take}
-use lib.Seq.{drop-drop, paste, paste-suc, take-all}
+use lib.Seq.{drop-drop, paste, paste-suc, sets-eq, take-all}
 use Rattle.octets.specs.Part.{part}
 use Rattle.octets.specs.Write.{over}
 use Rattle.octets.proofs.PartLaws.{part-front}
-use Rattle.octets.proofs.WriteLaws.{over-front}
-use Rattle.rules.specs.Layout.{padded}
+use Rattle.octets.proofs.WriteLaws.{over-front, over-over}
+use Rattle.rules.specs.Layout.{field, padded}
 
 zeros : (n i : ℕ) → getD {A = ℕ} (replicate n 0) i 0 ≡ 0
 zeros zero i = refl
@@ -61,6 +61,14 @@ padded-over d x p s at n h e f =
     rw (f ∙ part-front s n) (ap (λ (y : List ℕ). over y at q) e
     ∙ over-front d (replicate n 0) q at (omega arith) (omega arith)
     ∙ ap (over d at) (sym (padded-front q n n k (le-refl n)) ∙ padded-take s n n))
+
+-- a length octet, and the padded field behind it
+pub field-over : (o x s : List ℕ) (at limit : ℕ) → at + 1 + limit ≤ length o → x ≡ over (set o at (length s)) (at + 1) (padded limit s) → x ≡ over o at (field limit s)
+field-over o x s at limit h e =
+    let n = length s ∷ [] in
+    e
+    ∙ ap (λ (z : List ℕ). over z (at + 1) (padded limit s)) (sets-eq n o at (omega arith))
+    ∙ over-over o n (padded limit s) at (omega arith)
 
 -- octets over all of an output
 pub over-all : (l q : List ℕ) → length q ≡ length l → over l 0 q ≡ q

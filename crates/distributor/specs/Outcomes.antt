@@ -1,4 +1,4 @@
--- The number and the values that each case of the calls' enums stands for.
+-- The number and the values that each case of the calls' enums stands for: document 01, "Forms by place".
 use Prim.Native.Nat.{ℕ, _+_}
 use mathlib.Core.Path.{_≡_}
 use mathlib.Core.Bool.{cond}

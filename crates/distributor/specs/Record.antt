@@ -1,4 +1,4 @@
--- The record that Look gives by value: its fields padded with zeros, and how it is read.
+-- The record that Look gives by value (document 01, "The record and its calls"): its fields padded with zeros, and how it is read.
 use Prim.Native.Nat.{ℕ, _+_}
 use mathlib.Core.Bool.{true, false, cond}
 use mathlib.Core.List.{List}

@@ -1,4 +1,4 @@
--- The parts of a packet with a tag. A part that is not there is empty, from 0 to 0.
+-- The parts of a packet with a tag: document 01, "Splitting the EKT tag". A part that is not there is empty, from 0 to 0.
 use Prim.Native.Nat.{ℕ}
 use mathlib.Core.List.{List}
 use Rattle.octets.specs.declared.parts.Bounds.{Bounds}

@@ -13,7 +13,6 @@ use Rattle.message.specs.Limits.{width}
 use Rattle.message.specs.Walk.{begin, walkAt, fixed, field8, complete}
 use Rattle.message.specs.Body.{Content, fields, refused, mediaKeys}
 use Rattle.message.specs.declared.bodies.Fields.the-variants.{MediaKeys}
-use Rattle.message.specs.declared.bodies.KeyLengths.{KeyLengths}
 use Rattle.message.specs.declared.walking.Walk.{Walk}
 use Rattle.message.proofs.WalkLaws.{past-good, complete-good}
 use Rattle.message.proofs.WalkSays.{past-says, complete-says}

@@ -1,4 +1,4 @@
--- Where the fields of a message stand in the lent octets, and the message that they make up.
+-- Where the fields of a message stand in the lent octets, and the message that they make up: RFC 9185, sections 6.2 to 6.6.
 use Prim.Native.Nat.{ℕ, _+_}
 use mathlib.Core.List.{List}
 use Rattle.octets.specs.Bounds.{between, behind, nowhere, partIn}

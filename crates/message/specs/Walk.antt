@@ -1,4 +1,4 @@
--- A walk over a body, field by field: it stands still at the first field that is missing, cut short or outside its lengths.
+-- A walk over a body, field by field: it stands still at the first field that is missing, cut short or outside its lengths (document 01, "Tunnel messages").
 use Prim.Native.Nat.{ℕ, _+_, _%_}
 use mathlib.Core.Bool.{Bool, true, false, cond, _&&_}
 use mathlib.Core.List.{List}

@@ -1,7 +1,6 @@
 -- A type 1 from the key distributor changes no card and hands out nothing, so cards may go by the reading rules alone.
 use Prim.Native.Nat.{ℕ, _+_}
-use mathlib.Core.Path.{_≡_, refl, sym, ap, _∙_}
-use mathlib.Core.Bool.{cond}
+use mathlib.Core.Path.{_≡_, refl}
 use mathlib.Core.List.{List}
 use Rattle.octets.specs.Part.{part}
 use Rattle.octets.proofs.Tests.{by-choice}
@@ -13,11 +12,11 @@ use Rattle.message.specs.Read as Read
 use Rattle.message.specs.Parts.{meaning}
 use Rattle.message.specs.declared.framing.Kind.{Kind}
 use Rattle.message.specs.declared.bodies.Fields.the-variants.{SupportedProfiles}
-use Rattle.rules.specs.Refusals.{ofProfiles, received, receiving}
-use Rattle.rules.specs.Answer.{Answer, refused}
+use Rattle.rules.specs.Refusals.{ofProfiles, receiving}
+use Rattle.rules.specs.Answer.{refused}
 use Rattle.rules.specs.Cards.{Card, Cards, readCard}
 use Rattle.rules.specs.CardAnswers.{readDue, octetsDue}
-use Rattle.rules.specs.Claim.{Handed, nothing, handedRead}
+use Rattle.rules.specs.Claim.{nothing, handedRead}
 
 -- by whether a whole message of type 1 is at the front
 pub by-profiles : {X : Type 0} (P : X → Type 0) (f : Frame.Framing) (x : ℕ → X) (y : X)

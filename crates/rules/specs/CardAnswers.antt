@@ -1,4 +1,4 @@
--- What the cards say of each call's answer, place numbers apart. Nothing here names the table.
+-- What the cards say of each call's answer, place numbers apart: document 01, "What the proof has to say" and "The record and its calls". Nothing here names the table.
 use Prim.Native.Nat.{ℕ, _+_}
 use mathlib.Core.Bool.{Bool, cond, not}
 use mathlib.Core.List.{List, [], _∷_}

@@ -1,4 +1,4 @@
--- The key fields of an association, and those that a MediaKeys message brings.
+-- The key fields of an association, and those that a MediaKeys message brings: document 01, "The record and its calls"; RFC 9185, section 6.4.
 use Prim.Native.Nat.{ℕ}
 use mathlib.Core.List.{List}
 use Rattle.octets.specs.Bounds.{partIn}

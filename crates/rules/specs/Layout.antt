@@ -1,4 +1,4 @@
--- The block of octets that holds tunnel and table: where things stand, how they are read, and what a row is made of.
+-- The block of octets that holds tunnel and table: where things stand, how they are read, and what a row is made of. No document lays it out.
 use Prim.Native.Nat.{ℕ, zero, suc, _+_, _*_, _/_, _%_, _-_}
 use mathlib.Core.Bool.{Bool, not, _&&_}
 use mathlib.Core.List.{List, [], _∷_, _++_}
@@ -132,7 +132,7 @@ vacantRow = replicate rowLength 0
 unfoldable pub openRow : List ℕ → ℕ → List ℕ
 openRow identifier endpoint = padded width identifier ++ octetsOf32 endpoint ++ (1 ∷ []) ++ replicate (rowLength - profileAt) 0
 
--- a row with all its key fields replaced
+-- a row with all its key fields replaced; identifier and endpoint stay, and so do the octets behind the fields
 unfoldable pub keyedRow : Keys → List ℕ → List ℕ
 keyedRow k r =
     take stateAt r ++ (2 ∷ []) ++ octetsOf16 (k .profile) ++ field mkiLimit (k .mki) ++ field keyLimit (k .clientKey)

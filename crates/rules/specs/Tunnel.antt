@@ -1,4 +1,4 @@
--- The tunnel: down, or up with the profile list that it started with.
+-- The tunnel: down, or up with the profile list that it started with: document 01, "The record and its calls".
 use Prim.Native.Nat.{ℕ}
 use mathlib.Core.Bool.{Bool, true, false}
 use mathlib.Core.List.{List, []}

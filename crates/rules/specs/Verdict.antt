@@ -1,4 +1,4 @@
--- A call is allowed, or refused by a number.
+-- A call is allowed, or refused by a number, the earliest in its order: document 01, "Refusal numbers".
 use Prim.Native.Nat.{ℕ}
 use mathlib.Core.Bool.{Bool, true, false}
 

@@ -5,7 +5,6 @@ use Rattle.rules.specs.Layout as L
 use borrow.Author.Needs.{needs}
 use Rattle.rules.specs.Table as Spec
 use Rattle.distributor.specs.Outcomes as Out
-use borrow.Author.Needs.{needs}
 use Rattle.distributor.proofs.ending.end_in.Statement.{statement}
 use Rattle.distributor.proofs.ending.end_in.Tie as tie
 

@@ -9,7 +9,6 @@ use Rattle.distributor.specs.Record as R
 use Rattle.distributor.proofs.RecordReads.{record-read}
 use Rattle.rules.proofs.RowsLaws.{Legal, row-length}
 use Rattle.rules.specs.Answer.{found}
-use borrow.Author.Needs.{needs}
 use Rattle.distributor.proofs.looking.look_in.Statement.{statement}
 use Rattle.distributor.proofs.looking.look_in.Tie as tie
 

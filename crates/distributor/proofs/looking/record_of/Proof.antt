@@ -4,7 +4,6 @@ use Rattle.rules.specs.Layout as L
 use borrow.Author.Needs.{needs}
 use Rattle.rules.specs.Table as Spec
 use Rattle.distributor.specs.Record as R
-use borrow.Author.Needs.{needs}
 use Rattle.distributor.proofs.looking.record_of.Statement.{statement}
 use Rattle.distributor.proofs.looking.record_of.Tie as tie
 

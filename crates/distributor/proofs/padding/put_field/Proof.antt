@@ -1,15 +1,11 @@
+use mathlib.Core.Path.{ap, _∙_}
 use native.Mathlib.Omega.{arith}
-use mathlib.Core.Path.{_≡_, ap, _∙_}
-use denote.Ref.{now}
-use Prim.Native.Nat.{ℕ, _+_}
-use mathlib.Core.List.{List, [], _∷_}
 use lib.ListN.{length}
-use Rattle.rules.specs.Layout as L
-use borrow.Author.Needs.{needs}
-use Rattle.octets.proofs.WriteLaws.{over-over, over-length}
-use Rattle.octets.specs.Write.{over}
+use denote.Ref.{now}
+use Rattle.octets.proofs.WriteLaws.{over-length}
+use Rattle.rules.specs.Layout.{field}
 use Rattle.rules.proofs.FieldLaws.{field-length}
-use lib.Seq.{sets-eq}
+use Rattle.distributor.proofs.PadLaws.{field-over}
 use borrow.Author.Needs.{needs}
 use Rattle.distributor.proofs.padding.put_field.Statement.{statement}
 use Rattle.distributor.proofs.padding.put_field.Tie as tie
@@ -17,24 +13,14 @@ use Rattle.distributor.proofs.padding.put_field.Tie as tie
 same-length : tie.Need-same-length
 same-length c =
     let a = c .before .before .before .before .before .before .args in
-    let o = now (a .out) in
-    let f = L.field (a .limit) (now (a .s)) in
-    let e : _ ≡ over o (a .at) f =
-    c .before .before .put-padded .ensures
-    ∙ ap (λ (z : List ℕ). over z (a .at + 1) (L.padded (a .limit) (now (a .s)))) (sets-eq (length (now (a .s)) ∷ []) o (a .at) (omega arith))
-    ∙ over-over o (length (now (a .s)) ∷ []) (L.padded (a .limit) (now (a .s))) (a .at) (omega arith) in
-    ap length e ∙ over-length o (a .at) f (omega (arith, field-length (a .limit) (now (a .s))))
+    let s = now (a .s) in
+    ap length (field-over (now (a .out)) _ s (a .at) (a .limit) (omega arith) (c .before .before .put-padded .ensures))
+    ∙ over-length (now (a .out)) (a .at) (field (a .limit) s) (omega (arith, field-length (a .limit) s))
 
 returns : tie.Need-returns
 returns c =
     let a = c .before .before .before .before .before .before .args in
-    let o = now (a .out) in
-    let f = L.field (a .limit) (now (a .s)) in
-    let e : _ ≡ over o (a .at) f =
-    c .before .before .put-padded .ensures
-    ∙ ap (λ (z : List ℕ). over z (a .at + 1) (L.padded (a .limit) (now (a .s)))) (sets-eq (length (now (a .s)) ∷ []) o (a .at) (omega arith))
-    ∙ over-over o (length (now (a .s)) ∷ []) (L.padded (a .limit) (now (a .s))) (a .at) (omega arith) in
-    e
+    field-over (now (a .out)) _ (now (a .s)) (a .at) (a .limit) (omega arith) (c .before .before .put-padded .ensures)
 
 pub put-field-spec : {M : Type 1} → statement M
 put-field-spec =

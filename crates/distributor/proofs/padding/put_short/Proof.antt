@@ -1,6 +1,4 @@
 use mathlib.Core.Path.{sym, _∙_}
-use lib.ListN.{length}
-use denote.Ref.{now}
 use Rattle.octets.proofs.RangeLaws.{within-true}
 use Rattle.octets.proofs.WriteLaws.{put-whole}
 use borrow.Author.Needs.{needs}

@@ -5,7 +5,6 @@ use native.Mathlib.Omega.{arith}
 use lib.ListN.{length, length-set, replicate, set}
 use lib.Seq.{paste, paste-zero}
 use denote.Ref.{now}
-use borrow.Author.Needs.{needs}
 use Rattle.distributor.proofs.PadLaws.{zeros-next, zeros-all}
 use Rattle.distributor.proofs.padding.put_zeros.Statement.{statement}
 use Rattle.distributor.proofs.padding.put_zeros.Tie as tie

@@ -1,6 +1,5 @@
 use Rattle.rules.specs.Layout as L
 use borrow.Author.Needs.{needs}
-use borrow.Author.Needs.{needs}
 use Rattle.distributor.proofs.row.endpoint_of.Statement.{statement}
 use Rattle.distributor.proofs.row.endpoint_of.Tie as tie
 

@@ -7,7 +7,6 @@ use borrow.Author.Needs.{needs}
 use Rattle.octets.specs.Write.{over}
 use Rattle.distributor.proofs.PadLaws.{padded-none, over-all}
 use Rattle.rules.specs.Layout.{blockLength}
-use borrow.Author.Needs.{needs}
 use Rattle.distributor.proofs.storing.put_down.Statement.{statement}
 use Rattle.distributor.proofs.storing.put_down.Tie as tie
 

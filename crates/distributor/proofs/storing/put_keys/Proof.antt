@@ -13,7 +13,6 @@ use Rattle.rules.proofs.RowsLaws.{row-part, row-length}
 use lib.ListN.{take}
 use Rattle.rules.specs.Layout.{rowLength}
 use Rattle.rules.proofs.RowsLaws.{Legal}
-use borrow.Author.Needs.{needs}
 use Rattle.distributor.proofs.storing.put_keys.Statement.{statement}
 use Rattle.distributor.proofs.storing.put_keys.Tie as tie
 

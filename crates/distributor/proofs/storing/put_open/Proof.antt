@@ -9,7 +9,6 @@ use Rattle.distributor.proofs.PadLaws.{lent-back}
 use Rattle.rules.proofs.RowLaws.{open-row-length}
 use lib.ListN.{take}
 use Rattle.rules.specs.Layout.{rowLength}
-use borrow.Author.Needs.{needs}
 use Rattle.distributor.proofs.storing.put_open.Statement.{statement}
 use Rattle.distributor.proofs.storing.put_open.Tie as tie
 

@@ -1,12 +1,11 @@
 use mathlib.Core.Path.{ap, _∙_}
 use denote.Ref.{now}
-use Prim.Native.Nat.{_+_, _*_}
+use Prim.Native.Nat.{_*_}
 use Rattle.rules.specs.Layout as L
 use borrow.Author.Needs.{needs}
 use Rattle.octets.specs.Write.{over}
 use Rattle.distributor.proofs.PadLaws.{padded-none}
 use Rattle.rules.specs.Layout.{rowLength}
-use borrow.Author.Needs.{needs}
 use Rattle.distributor.proofs.storing.put_vacant.Statement.{statement}
 use Rattle.distributor.proofs.storing.put_vacant.Tie as tie
 

@@ -1,5 +1,5 @@
 use native.Mathlib.Omega.{arith}
-use mathlib.Core.Path.{_≡_, refl, sym, _∙_}
+use mathlib.Core.Path.{_≡_, sym, _∙_}
 use denote.Ref.{now}
 use mathlib.Core.List.{[], _∷_, _++_}
 use lib.ListN.{length}
@@ -20,7 +20,6 @@ use Rattle.distributor.proofs.RowWriting.{wrote-at, wrote-keep, wrote-a
 use Rattle.rules.proofs.KeysRoom.{part-room}
 use lib.ListN.{length-append}
 use Rattle.rules.specs.Layout.{rowLength, stateAt, profileAt, mkiAt, clientKeyAt, serverKeyAt, clientSaltAt, serverSaltAt, spareAt}
-use borrow.Author.Needs.{needs}
 use Rattle.distributor.proofs.writing.key_row.Statement.{statement}
 use Rattle.distributor.proofs.writing.key_row.Tie as tie
 

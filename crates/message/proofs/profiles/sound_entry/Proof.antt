@@ -5,7 +5,6 @@ use lib.ListN.{length, drop}
 use borrow.Author.Needs.{needs}
 use Rattle.octets.proofs.PartLaws.{part-tail}
 use native.Mathlib.Nat.{le-refl}
-use borrow.Author.Needs.{needs}
 use Rattle.message.proofs.profiles.sound_entry.Statement.{statement}
 use Rattle.message.proofs.profiles.sound_entry.Tie as tie
 
