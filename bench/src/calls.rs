@@ -3,6 +3,7 @@
 
 use crate::table::{Received, Refusal, Table};
 
+/// The length of the distributor's block; `measure_block` tells whether it still is.
 pub const BLOCK: usize = 5638;
 pub const RECORD: usize = 168;
 
@@ -46,6 +47,7 @@ extern "C" {
         on: usize,
     ) -> u64;
     pub fn measure_end(s: &mut [u8; BLOCK]) -> u64;
+    pub fn measure_block() -> u64;
     pub fn measure_look(s: &[u8; BLOCK], endpoint: u32, out: &mut [u8; RECORD]) -> u64;
 }
 

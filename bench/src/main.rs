@@ -9,13 +9,16 @@ mod table;
 use agree::{endpoint, identifier, media_keys, message, tunneled_dtls, Random};
 use calls::{Calls, Rattle, Rust, RECORD};
 use std::hint::black_box;
+use std::process::Command;
 use std::time::Instant;
 
 /// States that one timed stretch goes through, restored before it.
 const STATES: usize = 16;
 const STRETCHES: usize = 60;
 const CALLS: usize = 2_000;
-const RUNS: usize = 301;
+const RUNS: usize = 101;
+/// Where a process has its memory moves some figures by a tenth.
+const PROCESSES: usize = 9;
 
 #[derive(Clone, Copy)]
 enum Case {
@@ -68,8 +71,8 @@ fn keys(i: usize, length: usize) -> Vec<u8> {
     )
 }
 
-/// Octets lent to calls, one piece behind another, in each run from another place of a page on: so
-/// no figure hangs on where they lie.
+/// Octets lent to calls, one piece behind another, in each run from another line of a page on, so
+/// that no figure hangs on one place.
 struct Laid {
     octets: Vec<u8>,
     ends: Vec<usize>,
@@ -170,30 +173,7 @@ fn median(mut v: Vec<f64>) -> f64 {
     v[v.len() / 2]
 }
 
-fn main() {
-    let seen = agree::run::<Rattle, Rust>(3000, 1000);
-    println!("Both tables gave the same answers and octets (3,000 random lists of 1,000 calls):\n");
-    println!("| call | accepted, or more needed | refused |\n|---|---:|---:|");
-    let names = [
-        "start",
-        "open",
-        "booth packet",
-        "tunnel octets",
-        "close",
-        "end",
-        "look",
-    ];
-    for (name, [accepted, refused]) in names.iter().zip(seen) {
-        println!("| {name} | {accepted} | {refused} |");
-    }
-
-    agree::run::<stack::Painted, Rust>(300, 1000);
-    println!("\nThe most stack that a call took, in octets (300 random lists of 1,000 calls):\n");
-    println!("| call | stack |\n|---|---:|");
-    for (name, most) in names.iter().zip(stack::most()) {
-        println!("| {name} | {most} |");
-    }
-
+fn rows() -> Vec<Row> {
     let mut rows = vec![Row {
         call: "start",
         answer: "accepted",
@@ -227,24 +207,86 @@ fn main() {
             });
         }
     }
+    rows
+}
+
+/// ns per call of both tables in this process: the medians of its runs.
+fn medians(row: &Row) -> (f64, f64) {
+    let (mut a, mut b) = (vec![], vec![]);
+    for run in 0..RUNS {
+        // Each table is the first in every other run.
+        if run % 2 == 0 {
+            a.push(once::<Rattle>(row.case, row.live, run));
+            b.push(once::<Rust>(row.case, row.live, run));
+        } else {
+            b.push(once::<Rust>(row.case, row.live, run));
+            a.push(once::<Rattle>(row.case, row.live, run));
+        }
+    }
+    (median(a), median(b))
+}
+
+/// The medians of every row, from a process of their own.
+fn another_process() -> Vec<(f64, f64)> {
+    let program = std::env::current_exe().unwrap();
+    let output = Command::new(program).arg("--figures").output().unwrap();
+    let text = String::from_utf8(output.stdout).unwrap();
+    text.lines()
+        .map(|line| {
+            let (a, b) = line.split_once(' ').unwrap();
+            (a.parse().unwrap(), b.parse().unwrap())
+        })
+        .collect()
+}
+
+fn print_figures() {
+    let figures: Vec<_> = (0..PROCESSES).map(|_| another_process()).collect();
     println!("\n| call | case | live | ns Rattle | ns Rust | Rust / Rattle |");
     println!("|---|---|---:|---:|---:|---:|");
-    for Row {
-        call,
-        answer,
-        case,
-        live,
-    } in rows
-    {
-        let (mut a, mut b) = (vec![], vec![]);
-        for run in 0..RUNS {
-            a.push(once::<Rattle>(case, live, run));
-            b.push(once::<Rust>(case, live, run));
-        }
-        let (a, b) = (median(a), median(b));
-        println!(
-            "| {call} | {answer} | {live} | {a:.1} | {b:.1} | {:.2} |",
-            b / a
-        );
+    for (i, row) in rows().iter().enumerate() {
+        let of = |f: fn((f64, f64)) -> f64| median(figures.iter().map(|p| f(p[i])).collect());
+        let (a, b, ratio) = (of(|x| x.0), of(|x| x.1), of(|x| x.1 / x.0));
+        let Row {
+            call, answer, live, ..
+        } = row;
+        println!("| {call} | {answer} | {live} | {a:.1} | {b:.1} | {ratio:.2} |");
     }
+}
+
+fn print_agreement() {
+    let seen = agree::run::<Rattle, Rust>(3000, 1000);
+    println!("Both tables gave the same answers and octets (3,000 random lists of 1,000 calls):\n");
+    println!("| call | accepted, or more needed | refused |\n|---|---:|---:|");
+    let names = [
+        "start",
+        "open",
+        "booth packet",
+        "tunnel octets",
+        "close",
+        "end",
+        "look",
+    ];
+    for (name, [accepted, refused]) in names.iter().zip(seen) {
+        println!("| {name} | {accepted} | {refused} |");
+    }
+
+    agree::run::<stack::Painted, Rust>(300, 1000);
+    println!("\nThe most stack that a call took, in octets (300 random lists of 1,000 calls):\n");
+    println!("| call | stack |\n|---|---:|");
+    for (name, most) in names.iter().zip(stack::most()) {
+        println!("| {name} | {most} |");
+    }
+}
+
+fn main() {
+    assert_eq!(unsafe { calls::measure_block() }, calls::BLOCK as u64);
+    if std::env::args().any(|word| word == "--figures") {
+        for row in rows() {
+            let (a, b) = medians(&row);
+            println!("{a} {b}");
+        }
+        return;
+    }
+    print_agreement();
+    print_figures();
 }

@@ -27,7 +27,7 @@ use Rattle.rules.proofs.VerdictLaws.{keys-avoid}
 
 -- ---- refusal 4 is the only one that is not the reading's
 
-received-read : (s : List ℕ) (f : Frame.Framing) → profilesIn f ≡ 0 → received s f ≡ Read.frameAnswer s f
+pub received-read : (s : List ℕ) (f : Frame.Framing) → profilesIn f ≡ 0 → received s f ≡ Read.frameAnswer s f
 received-read s Frame.moreNeeded h = refl
 received-read s (Frame.refused number taken) h = refl
 received-read s (Frame.version number) h = refl
@@ -38,7 +38,7 @@ received-read s (Frame.whole Kind.TunneledDtls n) h = refl
 received-read s (Frame.whole Kind.EndpointDisconnect n) h = refl
 received-read s (Frame.whole Kind.Unlisted n) h = refl
 
-received-profiles : (s : List ℕ) (f : Frame.Framing) → (profilesIn f ≡ 0 → ⊥) → received s f ≡ Read.refused 4 (profilesIn f)
+pub received-profiles : (s : List ℕ) (f : Frame.Framing) → (profilesIn f ≡ 0 → ⊥) → received s f ≡ Read.refused 4 (profilesIn f)
 received-profiles s Frame.moreNeeded h = absurd (h refl)
 received-profiles s (Frame.refused number taken) h = absurd (h refl)
 received-profiles s (Frame.version number) h = absurd (h refl)
@@ -74,21 +74,12 @@ module _ (s octets : List ℕ) {a : Answer} {next : List ℕ} where
   unfolding octetsAnswer octetsNext
   of-receiving u r e h = rw (u, e) h
 
--- ---- by refusals 1 and 4
+-- ---- by refusal 1
 
 module _ (s octets : List ℕ) where
   pub receives-down : up s ≡ false → Receives s octets (refused 1 0) s
   unfolding octetsAnswer octetsNext
   receives-down u = (rw u, rw u)
-
-  pub receives-profiles : up s ≡ true → (profilesIn (Frame.frame octets) ≡ 0 → ⊥) → Receives s octets (refused 4 (profilesIn (Frame.frame octets))) s
-  unfolding receiving
-  receives-profiles u h = of-receiving s octets u (Read.refused 4 (profilesIn (Frame.frame octets))) (received-profiles octets (Frame.frame octets) h) (refl, refl)
-
-  pub receives-reading : up s ≡ true → profilesIn (Frame.frame octets) ≡ 0 → {a : Answer} {next : List ℕ}
-      → Reads s octets (Read.reading octets) a next → Receives s octets a next
-  unfolding receiving Read.reading
-  receives-reading u h g = of-receiving s octets u (Read.frameAnswer octets (Frame.frame octets)) (received-read octets (Frame.frame octets) h) g
 
 -- ---- by the place of the identifier
 

@@ -34,7 +34,7 @@ pub const CLIENT_SALT: usize = SERVER_KEY + 1 + KEY_LIMIT;
 
 pub const SERVER_SALT: usize = CLIENT_SALT + 1 + SALT_LIMIT as usize;
 
-// A multiple of 16, so that no identifier lies across two lines of a cache.
+// A multiple of 16: of a block lent at one, no identifier lies across two lines of a cache.
 pub const ROW: usize = SERVER_SALT + 1 + SALT_LIMIT as usize + 4;
 
 // The rows, the tunnel, its profile list behind a length octet.

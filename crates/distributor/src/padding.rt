@@ -26,7 +26,8 @@ fn put_ends(out: &mut [u8], at: usize, n: usize, s: &[u8])
     octets::put_octets(out, at + last, &s[last..]);
 }
 
-// A copy. The lengths that key fields have go in two moves of a length that a compiler knows, without a call.
+// A copy. From 8 to 32 octets, as keys and most salts have, go in two moves of a length that a compiler knows, without
+// a call.
 fn put_short(out: &mut [u8], at: usize, s: &[u8])
     requires { ⌜ at + length (now s) ≤ length (now out) ⌝ }
     ensures { λ _. ⌜ now (out .exit) ≡ over (now (out .entry)) at (now (s .entry)) ⌝ }

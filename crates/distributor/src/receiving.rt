@@ -12,11 +12,11 @@ use crate::search::place_of_identifier;
 use crate::storing::put_down;
 use crate::storing::put_keys;
 use crate::storing::put_vacant;
+use message::Body;
 use message::Fields;
 use message::Frame;
 use message::KeyLengths;
 use message::Kind;
-use message::Read;
 use message::limits::HEADER;
 use message::limits::WIDTH;
 use octets::Bounds;
@@ -25,7 +25,8 @@ ghost use mathlib.Core.Path.{_≡_};
 ghost use lib.ListN.{length};
 ghost use Rattle.rules.specs.Layout as Layout;
 ghost use Rattle.message.specs.Frame as Framing;
-ghost use Rattle.message.specs.Read.{reading};
+ghost use Rattle.message.specs.Read.{frameAnswer};
+ghost use Rattle.rules.specs.Refusals.{received, receiving};
 ghost use Rattle.rules.specs.Table as Spec;
 ghost use Rattle.distributor.specs.Outcomes as Out;
 
@@ -57,6 +58,7 @@ pub enum Received {
     },
 }
 
+// The octets of a whole SupportedProfiles; 0 for any other kind.
 fn profiles_of(kind: Kind, body_length: u16) -> usize
     ensures { λ r. ⌜ r ≡ Out.profilesIn (Framing.whole kind «body_length») ⌝ }
 {
@@ -67,19 +69,6 @@ fn profiles_of(kind: Kind, body_length: u16) -> usize
         Kind::TunneledDtls => 0,
         Kind::EndpointDisconnect => 0,
         Kind::Unlisted => 0,
-    }
-}
-
-// The octets of a whole SupportedProfiles at the front, 0 where there is none.
-fn profiles_taken(s: &[u8]) -> usize
-    ensures { λ r. ⌜ r ≡ Out.profilesIn (Framing.frame (now (s .entry))) ⌝ }
-{
-    match message::read_frame(s) {
-        Frame::Whole { kind, body_length } => profiles_of(kind, body_length),
-        Frame::MoreNeeded => 0,
-        Frame::EmptyVersion => 0,
-        Frame::Version { version: _ } => 0,
-        Frame::Oversize => 0,
     }
 }
 
@@ -196,26 +185,60 @@ fn take_fields(state: &mut [u8], s: &[u8], fields: Fields, taken: usize) -> Rece
     }
 }
 
-// What was read, with refusal 4 already tested.
-fn take_read(state: &mut [u8], s: &[u8]) -> Received
+// A whole message that is no SupportedProfiles, by its body.
+fn take_body(state: &mut [u8], s: &[u8], kind: Kind, body_length: u16) -> Received
     requires { ⌜ length (now state) ≡ Layout.blockLength ⌝ }
-    ensures { λ r. ⌜ (Out.receivedOf r ≡ Spec.readAnswer (now (state .entry)) (now (s .entry)) (reading (now (s .entry)))) × (now (state .exit) ≡ Spec.readNext (now (state .entry)) (now (s .entry)) (reading (now (s .entry)))) ⌝ }
+    ensures { λ r. ⌜ (Out.receivedOf r ≡ Spec.readAnswer (now (state .entry)) (now (s .entry)) (frameAnswer (now (s .entry)) (Framing.whole kind «body_length»))) × (now (state .exit) ≡ Spec.readNext (now (state .entry)) (now (s .entry)) (frameAnswer (now (s .entry)) (Framing.whole kind «body_length»))) ⌝ }
 {
-    match message::read_message(s) {
-        Read::MoreNeeded => Received::MoreNeeded,
-        Read::Oversize => {
+    let taken = HEADER + body_length as usize;
+    match message::read_body(kind, octets::part(s, HEADER, taken)) {
+        Body::Unlisted => Received::Refused {
+            number: refusal::UNLISTED_TYPE,
+            taken,
+        },
+        Body::Bad => Received::BadBody { taken },
+        Body::Good { fields } => take_fields(state, s, fields, taken),
+    }
+}
+
+// A whole message: refusal 4 comes before its body.
+fn take_whole(state: &mut [u8], s: &[u8], kind: Kind, body_length: u16) -> Received
+    requires { ⌜ length (now state) ≡ Layout.blockLength ⌝ }
+    ensures { λ r. ⌜ (Out.receivedOf r ≡ Spec.readAnswer (now (state .entry)) (now (s .entry)) (received (now (s .entry)) (Framing.whole kind «body_length»))) × (now (state .exit) ≡ Spec.readNext (now (state .entry)) (now (s .entry)) (received (now (s .entry)) (Framing.whole kind «body_length»))) ⌝ }
+{
+    let profiles = profiles_of(kind, body_length);
+    if profiles != 0 {
+        return Received::Refused {
+            number: refusal::WRONG_DIRECTION,
+            taken: profiles,
+        };
+    }
+    take_body(state, s, kind, body_length)
+}
+
+// What the front of the octets holds, with the tunnel up.
+fn take_frame(state: &mut [u8], s: &[u8]) -> Received
+    requires { ⌜ length (now state) ≡ Layout.blockLength ⌝ }
+    ensures { λ r. ⌜ (Out.receivedOf r ≡ Spec.readAnswer (now (state .entry)) (now (s .entry)) (receiving (now (s .entry)))) × (now (state .exit) ≡ Spec.readNext (now (state .entry)) (now (s .entry)) (receiving (now (s .entry)))) ⌝ }
+{
+    match message::read_frame(s) {
+        Frame::MoreNeeded => Received::MoreNeeded,
+        Frame::EmptyVersion => Received::BadBody { taken: HEADER },
+        Frame::Version { version } => {
+            put_down(state);
+            Received::Version {
+                version,
+                taken: s.len(),
+            }
+        }
+        Frame::Oversize => {
             put_down(state);
             Received::Refused {
                 number: refusal::OVERSIZE,
                 taken: 0,
             }
         }
-        Read::Unlisted { taken } => Received::Refused {
-            number: refusal::UNLISTED_TYPE,
-            taken,
-        },
-        Read::BadBody { taken } => Received::BadBody { taken },
-        Read::Accepted { fields, taken } => take_fields(state, s, fields, taken),
+        Frame::Whole { kind, body_length } => take_whole(state, s, kind, body_length),
     }
 }
 
@@ -223,20 +246,14 @@ fn octets_in(state: &mut [u8], s: &[u8]) -> Received
     requires { ⌜ length (now state) ≡ Layout.blockLength ⌝ }
     ensures { λ r. ⌜ (Out.receivedOf r ≡ Spec.octetsAnswer (now (state .entry)) (now (s .entry))) × (now (state .exit) ≡ Spec.octetsNext (now (state .entry)) (now (s .entry))) ⌝ }
 {
-    if !is_up(state) {
-        return Received::Refused {
+    if is_up(state) {
+        take_frame(state, s)
+    } else {
+        Received::Refused {
             number: refusal::TUNNEL_DOWN,
             taken: 0,
-        };
+        }
     }
-    let profiles = profiles_taken(s);
-    if profiles != 0 {
-        return Received::Refused {
-            number: refusal::WRONG_DIRECTION,
-            taken: profiles,
-        };
-    }
-    take_read(state, s)
 }
 
 // Octets from the key distributor: 1, then the reading; type 3: 6, 7, 8, 9; types 4 and 5: 6.

@@ -22,6 +22,12 @@ fn sent(answer: Sent) -> u64 {
     }
 }
 
+// The length of the block, for the caller to see that its own is right.
+#[no_mangle]
+pub extern "C" fn measure_block() -> u64 {
+    BLOCK as u64
+}
+
 // The octets written.
 #[no_mangle]
 pub extern "C" fn measure_start(state: &mut [u8; BLOCK], list: &[u8], out: &mut [u8]) -> u64 {

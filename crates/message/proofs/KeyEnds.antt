@@ -1,6 +1,6 @@
 -- MediaKeys by one test: its walk goes past every field exactly where none is too short and the last one ends the body.
-use Prim.Native.Nat.{ℕ, _+_, _≤_}
-use mathlib.Core.Path.{_≡_, refl, sym, ap, _∙_}
+use Prim.Native.Nat.{ℕ, _+_}
+use mathlib.Core.Path.{_≡_, refl, sym, _∙_}
 use mathlib.Core.Bool.{Bool, true, false, cond, _&&_}
 use mathlib.Core.List.{List}
 use native.Mathlib.Omega.{arith}
@@ -10,49 +10,14 @@ use borrow.Author.Tests.{le-leb, leb-true, eq-eqb, eqb-true}
 use Rattle.octets.specs.Number.{octetAt, number16At}
 use Rattle.octets.proofs.Tests.{by-choice, both, false-true}
 use Rattle.message.specs.Limits.{width}
-use Rattle.message.specs.Walk.{begin, walkAt, fixed, field8, complete}
+use Rattle.message.specs.Walk.{begin, fixed, field8, complete}
 use Rattle.message.specs.Body.{Content, fields, refused, mediaKeys}
 use Rattle.message.specs.declared.bodies.Fields.the-variants.{MediaKeys}
-use Rattle.message.specs.declared.walking.Walk.{Walk}
-use Rattle.message.proofs.WalkLaws.{past-good, complete-good}
-use Rattle.message.proofs.WalkSays.{past-says, complete-says}
+use Rattle.message.proofs.WalkLaws.{complete-good}
+use Rattle.message.proofs.WalkSays.{complete-says}
+use Rattle.message.proofs.WalkEnds.{Stands, fixed-goes, field8-goes, fixed-stands, field8-says}
 
 module _ (body : List ℕ) where
-  -- ---- one field
-
-  field8-goes : (least at to : ℕ) → least ≤ octetAt body at → at + 1 + octetAt body at ≡ to → to ≤ length body
-      → field8 body least (walkAt true at) ≡ walkAt true to
-  unfolding field8
-  field8-goes least at to h e k = rw (le-leb _ _ h) (past-good (length body) (1 + octetAt body at) at (omega arith) ∙ ap (walkAt true) (omega arith))
-
-  fixed-goes : (n at to : ℕ) → at + n ≡ to → to ≤ length body → fixed body n (walkAt true at) ≡ walkAt true to
-  unfolding fixed
-  fixed-goes n at to e k = past-good (length body) n at (omega arith) ∙ ap (walkAt true) e
-
-  -- where a walk stands that is good
-  abbrev Stands : Walk → ℕ → Type 0
-  Stands w at = w .good ≡ true → w .at ≡ at
-
-  record Field8 (least at : ℕ) (w : Walk) : Type 0 where
-    before : w .good ≡ true
-    some : least ≤ octetAt body at
-    stands : field8 body least w .at ≡ at + 1 + octetAt body at
-
-  field8-says : (least at : ℕ) (w : Walk) → Stands w at → field8 body least w .good ≡ true → Field8 least at w
-  unfolding field8
-  field8-says least at w s g =
-      let p = past-says (length body) (leb least (octetAt body (w .at))) (1 + octetAt body (w .at)) w g in
-      let e = s (p .before) in
-      record { before = p .before; some = leb-true _ _ (rw e at (p .test)); stands = p .stands ∙ (rw e (omega arith)) }
-
-  fixed-stands : (n at : ℕ) (w : Walk) → Stands w at → Stands (fixed body n w) (at + n)
-  unfolding fixed
-  fixed-stands n at w s g =
-      let p = past-says (length body) true n w g in
-      p .stands ∙ ap (λ (i : ℕ). i + n) (s (p .before))
-
-  -- ---- all of them
-
   abbrev clientKeyAt : ℕ
   clientKeyAt = width + 3 + octetAt body (width + 2)
 
@@ -100,13 +65,13 @@ module _ (body : List ℕ) where
       let b = both (hasClientKey && hasServerKey) hasClientSalt (c .0) in
       let a = both hasClientKey hasServerKey (b .0) in
       rw (
-        fixed-goes width 0 width (omega arith) (omega arith),
-        fixed-goes 2 width (width + 2) (omega arith) (omega arith),
-        field8-goes 0 (width + 2) clientKeyAt (omega arith) (omega arith) (omega arith),
-        field8-goes 1 clientKeyAt serverKeyAt (leb-true _ _ (a .0)) refl (omega arith),
-        field8-goes 1 serverKeyAt clientSaltAt (leb-true _ _ (a .1)) refl (omega arith),
-        field8-goes 1 clientSaltAt serverSaltAt (leb-true _ _ (b .1)) refl (omega arith),
-        field8-goes 1 serverSaltAt end (leb-true _ _ (c .1)) refl (omega arith),
+        fixed-goes body width 0 width (omega arith) (omega arith),
+        fixed-goes body 2 width (width + 2) (omega arith) (omega arith),
+        field8-goes body 0 (width + 2) clientKeyAt (omega arith) (omega arith) (omega arith),
+        field8-goes body 1 clientKeyAt serverKeyAt (leb-true _ _ (a .0)) refl (omega arith),
+        field8-goes body 1 serverKeyAt clientSaltAt (leb-true _ _ (a .1)) refl (omega arith),
+        field8-goes body 1 clientSaltAt serverSaltAt (leb-true _ _ (b .1)) refl (omega arith),
+        field8-goes body 1 serverSaltAt end (leb-true _ _ (c .1)) refl (omega arith),
         complete-good body end e,
       )
 
@@ -120,16 +85,16 @@ module _ (body : List ℕ) where
       let w4 = field8 body 1 w3 in
       let w5 = field8 body 1 w4 in
       let w6 = field8 body 1 w5 in
-      let s2 : Stands w2 (width + 2) = fixed-stands 2 width w1 (fixed-stands width 0 begin (λ _. refl)) in
-      let s3 : Stands w3 clientKeyAt = λ g. field8-says 0 (width + 2) w2 s2 g .stands ∙ omega arith in
-      let s4 : Stands w4 serverKeyAt = λ g. field8-says 1 clientKeyAt w3 s3 g .stands in
-      let s5 : Stands w5 clientSaltAt = λ g. field8-says 1 serverKeyAt w4 s4 g .stands in
-      let s6 : Stands w6 serverSaltAt = λ g. field8-says 1 clientSaltAt w5 s5 g .stands in
+      let s2 : Stands w2 (width + 2) = fixed-stands body 2 width w1 (fixed-stands body width 0 begin (λ _. refl)) in
+      let s3 : Stands w3 clientKeyAt = λ g. field8-says body 0 (width + 2) w2 s2 g .stands ∙ omega arith in
+      let s4 : Stands w4 serverKeyAt = λ g. field8-says body 1 clientKeyAt w3 s3 g .stands in
+      let s5 : Stands w5 clientSaltAt = λ g. field8-says body 1 serverKeyAt w4 s4 g .stands in
+      let s6 : Stands w6 serverSaltAt = λ g. field8-says body 1 clientSaltAt w5 s5 g .stands in
       let e = complete-says body (field8 body 1 w6) h in
-      let f6 = field8-says 1 serverSaltAt w6 s6 (e .0) in
-      let f5 = field8-says 1 clientSaltAt w5 s5 (f6 .before) in
-      let f4 = field8-says 1 serverKeyAt w4 s4 (f5 .before) in
-      let f3 = field8-says 1 clientKeyAt w3 s3 (f4 .before) in
+      let f6 = field8-says body 1 serverSaltAt w6 s6 (e .0) in
+      let f5 = field8-says body 1 clientSaltAt w5 s5 (f6 .before) in
+      let f4 = field8-says body 1 serverKeyAt w4 s4 (f5 .before) in
+      let f3 = field8-says body 1 clientKeyAt w3 s3 (f4 .before) in
       rw (le-leb _ _ (f3 .some), le-leb _ _ (f4 .some), le-leb _ _ (f5 .some), le-leb _ _ (f6 .some), eq-eqb end (length body) (sym (f6 .stands) ∙ e .1))
 
   stops : (some && eqb end (length body)) ≡ false → mediaKeys body ≡ refused 5

@@ -12,6 +12,7 @@ pub mod WriteBack
 pub mod FieldsMean
 pub mod VersionBack
 pub mod WalkLaws
+pub mod WalkEnds
 pub mod KeyEnds
 pub mod EncodeLaws
 pub mod KeysBack

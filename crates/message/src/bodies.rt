@@ -70,7 +70,8 @@ fn unsupported_version(body: &[u8]) -> Body
     }
 }
 
-// One test for all seven fields: where the last of them ends the body, each length octet stood inside it.
+// One test for all seven fields, and in the two functions below for all fields too: where the last of them ends the body,
+// each length octet stood inside it.
 fn media_keys(body: &[u8]) -> Body
     ensures { λ r. ⌜ Spec.contentOf r ≡ Spec.mediaKeys (now (body .entry)) ⌝ }
 {
@@ -106,19 +107,29 @@ fn media_keys(body: &[u8]) -> Body
 fn tunneled_dtls(body: &[u8]) -> Body
     ensures { λ r. ⌜ Spec.contentOf r ≡ Spec.tunneledDtls (now (body .entry)) ⌝ }
 {
-    let identifier = walking::fixed(body, WIDTH, BEGIN);
-    let dtls = walking::field16(body, identifier);
-    let fields = Fields::TunneledDtls {
-        dtls_length: octets::number16(body, identifier.at),
-    };
-    ending(body, dtls, fields)
+    if body.len() <= WIDTH + 2 {
+        return Body::Bad;
+    }
+    let dtls_length = octets::number16(body, WIDTH);
+    if WIDTH + 2 + dtls_length as usize == body.len() {
+        Body::Good {
+            fields: Fields::TunneledDtls { dtls_length },
+        }
+    } else {
+        Body::Bad
+    }
 }
 
 fn endpoint_disconnect(body: &[u8]) -> Body
     ensures { λ r. ⌜ Spec.contentOf r ≡ Spec.endpointDisconnect (now (body .entry)) ⌝ }
 {
-    let identifier = walking::fixed(body, WIDTH, BEGIN);
-    ending(body, identifier, Fields::EndpointDisconnect)
+    if body.len() == WIDTH {
+        Body::Good {
+            fields: Fields::EndpointDisconnect,
+        }
+    } else {
+        Body::Bad
+    }
 }
 
 pub fn read_body(kind: Kind, body: &[u8]) -> Body

@@ -35,14 +35,6 @@ pub fn fixed(body: &[u8], n: usize, w: Walk) -> Walk
     past(body.len(), true, n, w)
 }
 
-// A field of at least one octet behind its two length octets.
-pub fn field16(body: &[u8], w: Walk) -> Walk
-    ensures { λ r. ⌜ r ≡ Spec.field16 (now (body .entry)) w ⌝ }
-{
-    let n = octets::number16(body, w.at);
-    past(body.len(), 1 <= n, 2 + n as usize, w)
-}
-
 // A profile list behind its two length octets.
 pub fn profile_list(body: &[u8], w: Walk) -> Walk
     ensures { λ r. ⌜ r ≡ Spec.profileList (now (body .entry)) w ⌝ }

@@ -43,7 +43,7 @@ serverSaltAt = clientSaltAt + 1 + saltLimit
 abbrev pub spareAt : ℕ
 spareAt = serverSaltAt + 1 + saltLimit
 
--- a multiple of 16, so that no identifier lies across two lines of a cache
+-- a multiple of 16: of a block lent at one, no identifier lies across two lines of a cache
 abbrev pub rowLength : ℕ
 rowLength = spareAt + 4
 
