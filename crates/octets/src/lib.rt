@@ -2,6 +2,7 @@
 mod parts;
 mod reading;
 pub mod refusal;
+mod words;
 mod writing;
 
 pub use parts::Bounds;
