@@ -2,6 +2,10 @@
 use crate::limits::BODY_LIMIT;
 use crate::limits::HEADER;
 ghost use mathlib.Core.Path.{_≡_};
+ghost use Prim.Native.Nat.{_≤_};
+ghost use lib.ListN.{length};
+ghost use Rattle.octets.specs.Number.{number16At};
+ghost use Rattle.message.specs.Limits.{header};
 ghost use Rattle.message.specs.Frame as Spec;
 
 // What the type octet says.
@@ -40,14 +44,12 @@ pub fn kind_of(message_type: u8) -> Kind
     }
 }
 
-// An UnsupportedVersion, which is never waited for beyond its fourth octet.
-pub fn version_frame(s: &[u8]) -> Frame
+// An UnsupportedVersion, never waited for beyond its fourth octet. Here and below the header is there, and its length was read.
+fn version_of(s: &[u8], body_length: u16) -> Frame
+    requires { ⌜ (header ≤ length (now s)) × («body_length» ≡ number16At (now s) 1) ⌝ }
     ensures { λ r. ⌜ Spec.framingOf r ≡ Spec.versionFrame (now (s .entry)) ⌝ }
 {
-    if s.len() < HEADER {
-        return Frame::MoreNeeded;
-    }
-    if octets::number16(s, 1) == 0 {
+    if body_length == 0 {
         return Frame::EmptyVersion;
     }
     if s.len() < HEADER + 1 {
@@ -59,13 +61,10 @@ pub fn version_frame(s: &[u8]) -> Frame
 }
 
 // A message of any type, within the limit and whole.
-pub fn plain_frame(s: &[u8]) -> Frame
+fn plain_of(s: &[u8], body_length: u16) -> Frame
+    requires { ⌜ (header ≤ length (now s)) × («body_length» ≡ number16At (now s) 1) ⌝ }
     ensures { λ r. ⌜ Spec.framingOf r ≡ Spec.plainFrame (now (s .entry)) ⌝ }
 {
-    if s.len() < HEADER {
-        return Frame::MoreNeeded;
-    }
-    let body_length = octets::number16(s, 1);
     if BODY_LIMIT < body_length {
         return Frame::Oversize;
     }
@@ -78,12 +77,37 @@ pub fn plain_frame(s: &[u8]) -> Frame
     }
 }
 
+// Lent octets as an UnsupportedVersion, whatever their type says.
+pub fn version_frame(s: &[u8]) -> Frame
+    ensures { λ r. ⌜ Spec.framingOf r ≡ Spec.versionFrame (now (s .entry)) ⌝ }
+{
+    if s.len() < HEADER {
+        return Frame::MoreNeeded;
+    }
+    version_of(s, octets::number16(s, 1))
+}
+
+// Lent octets as a message of any type.
+pub fn plain_frame(s: &[u8]) -> Frame
+    ensures { λ r. ⌜ Spec.framingOf r ≡ Spec.plainFrame (now (s .entry)) ⌝ }
+{
+    if s.len() < HEADER {
+        return Frame::MoreNeeded;
+    }
+    plain_of(s, octets::number16(s, 1))
+}
+
+// By the type octet.
 pub fn read_frame(s: &[u8]) -> Frame
     ensures { λ r. ⌜ Spec.framingOf r ≡ Spec.frame (now (s .entry)) ⌝ }
 {
+    if s.len() < HEADER {
+        return Frame::MoreNeeded;
+    }
+    let body_length = octets::number16(s, 1);
     if octets::octet(s, 0) == 2 {
-        version_frame(s)
+        version_of(s, body_length)
     } else {
-        plain_frame(s)
+        plain_of(s, body_length)
     }
 }

@@ -1,7 +1,5 @@
-use Prim.Native.Nat.{_+_, _≤_}
-use mathlib.Core.Path.{_≡_, sym, _∙_}
+use mathlib.Core.Path.{sym}
 use native.Mathlib.Omega.{arith}
-use lib.ListN.{length}
 use denote.Ref.{now}
 use Rattle.message.proofs.WalkEnds.{dtls-whole, dtls-bad}
 use borrow.Author.Needs.{needs}
