@@ -2,7 +2,8 @@
 use Prim.Native.Nat.{ℕ}
 use mathlib.Core.Path.{_≡_, refl, ap}
 use native.Mathlib.Omega.{arith}
-use Rattle.rules.specs.Verdict.{Verdict, allowed, refusal}
+use mathlib.Core.Bool.{Bool, true, false, not, cond}
+use Rattle.rules.specs.Verdict.{Verdict, allowed, refusal, refuse}
 use Rattle.distributor.specs.Outcomes.{checked}
 use Rattle.distributor.specs.declared.check.Check.{Check}
 
@@ -13,3 +14,8 @@ told-allowed (refusal m) p {n} t h = let z : _≡_ {A = ℕ} 0 1 = cc in absurd 
 pub told-refused : (v : Verdict) (p : ℕ) {n : ℕ} {r : Check} → r ≡ Check.Refused n → r ≡ checked v p → refusal n ≡ v
 told-refused allowed p {n} t h = let z : _≡_ {A = ℕ} 0 1 = cc in absurd (omega arith)
 told-refused (refusal m) p {n} t h = let e : n ≡ m = cc in ap refusal e
+
+-- refusal 6 comes before another one
+pub six-first : (known : Bool) (n p : ℕ) (v : Verdict) → (known ≡ true → v ≡ refusal n) → Check.Refused (cond known n 6) ≡ checked (refuse (not known) 6 v) p
+six-first true n p v h = rw (h refl)
+six-first false n p v h = refl

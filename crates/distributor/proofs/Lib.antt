@@ -1,9 +1,5 @@
 pub mod CheckLaws
 pub mod LoopLaws
-pub mod PadLaws
-pub mod EndsLaws
-pub mod RowWriting
-pub mod ArrayLaws
 pub mod ReceivingLaws
 pub mod RecordReads
 pub mod Sendable

@@ -1,7 +1,5 @@
 // Where things stand in the block.
-use message::limits::MKI_LIMIT;
-use message::limits::SALT_LIMIT;
-use message::limits::WIDTH;
+use rows::layout::ROW;
 ghost use mathlib.Core.Path.{_≡_};
 ghost use Prim.Native.Nat.{_<_};
 ghost use lib.ListN.{length};
@@ -10,32 +8,8 @@ ghost use Rattle.rules.specs.Layout as Spec;
 
 // Live associations at most.
 pub const PLACES: usize = 32;
-// The longest key of a profile, and the longest good profile list.
-pub const KEY_LIMIT: usize = 32;
-
+// The longest good profile list.
 pub const LIST_LIMIT: usize = 4;
-
-// In a row: identifier, endpoint, state, profile; then each field behind a length octet; zeros to the end.
-pub const IDENTIFIER: usize = 0;
-
-pub const ENDPOINT: usize = IDENTIFIER + WIDTH;
-
-pub const STATE: usize = ENDPOINT + 4;
-
-pub const PROFILE: usize = STATE + 1;
-
-pub const MKI: usize = PROFILE + 2;
-
-pub const CLIENT_KEY: usize = MKI + 1 + MKI_LIMIT as usize;
-
-pub const SERVER_KEY: usize = CLIENT_KEY + 1 + KEY_LIMIT;
-
-pub const CLIENT_SALT: usize = SERVER_KEY + 1 + KEY_LIMIT;
-
-pub const SERVER_SALT: usize = CLIENT_SALT + 1 + SALT_LIMIT as usize;
-
-// A multiple of 16: of a block lent at one, no identifier lies across two lines of a cache.
-pub const ROW: usize = SERVER_SALT + 1 + SALT_LIMIT as usize + 4;
 
 // The rows, the tunnel, its profile list behind a length octet.
 pub const TUNNEL: usize = PLACES * ROW;

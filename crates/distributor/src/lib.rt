@@ -1,6 +1,5 @@
 // Tunnel and table of a media distributor (RFC 9185, section 5; document 01, "The record and its
 // calls"), in one block of octets that the caller lends.
-mod arrays;
 mod block;
 mod check;
 mod closing;
@@ -8,14 +7,11 @@ mod ending;
 mod initial;
 mod looking;
 mod opening;
-mod padding;
 mod receiving;
-mod row;
 mod search;
 mod sending;
 mod starting;
 mod storing;
-mod writing;
 
 pub use block::BLOCK;
 pub use block::PLACES;

@@ -1,7 +1,5 @@
 // Booth packet, and what calls that write answer.
-use crate::arrays::array16;
 use crate::block::BLOCK;
-use crate::block::IDENTIFIER;
 use crate::block::PLACES;
 use crate::block::is_up;
 use crate::block::row_at;
@@ -14,7 +12,10 @@ use message::limits::BODY_LIMIT;
 use message::limits::HEADER;
 use message::limits::WIDTH;
 use octets::refusal;
+use rows::array16;
+use rows::layout::IDENTIFIER;
 ghost use mathlib.Core.Path.{_≡_};
+ghost use mathlib.Core.Bool.{cond};
 ghost use lib.ListN.{length};
 ghost use Rattle.rules.specs.Layout.{blockLength};
 ghost use Rattle.rules.specs.Refusals.{notDtls};
@@ -43,6 +44,18 @@ fn is_not_dtls(packet: &[u8]) -> bool
     }
 }
 
+// A packet that is refused by itself. Without an association for its endpoint the refusal is 6, which comes first.
+fn refused_packet(state: &[u8], endpoint: u32, number: u8) -> Check
+    requires { ⌜ length (now state) ≡ blockLength ⌝ }
+    ensures { λ r. ⌜ r ≡ Check.Refused (cond (Spec.serves (now (state .entry)) endpoint) number 6) ⌝ }
+{
+    if place_of_endpoint(state, endpoint) < PLACES {
+        return refused(number);
+    }
+    refused(refusal::NO_ASSOCIATION)
+}
+
+// The search comes last, where a processor has the least left to do when it foresaw the wrong place.
 fn check_packet(state: &[u8], endpoint: u32, packet: &[u8], room: usize) -> Check
     requires { ⌜ length (now state) ≡ blockLength ⌝ }
     ensures { λ r. ⌜ r ≡ checked (Spec.packetVerdict (now (state .entry)) endpoint (now (packet .entry)) room) (Spec.placeOfEndpoint (now (state .entry)) endpoint) ⌝ }
@@ -50,18 +63,18 @@ fn check_packet(state: &[u8], endpoint: u32, packet: &[u8], room: usize) -> Chec
     if !is_up(state) {
         return refused(refusal::TUNNEL_DOWN);
     }
+    if is_not_dtls(packet) {
+        return refused_packet(state, endpoint, refusal::NOT_DTLS);
+    }
+    if PACKET_LIMIT < packet.len() {
+        return refused_packet(state, endpoint, refusal::PACKET_TOO_LONG);
+    }
+    if room < HEADER + WIDTH + 2 + packet.len() {
+        return refused_packet(state, endpoint, refusal::NO_ROOM);
+    }
     let place = place_of_endpoint(state, endpoint);
     if PLACES <= place {
         return refused(refusal::NO_ASSOCIATION);
-    }
-    if is_not_dtls(packet) {
-        return refused(refusal::NOT_DTLS);
-    }
-    if PACKET_LIMIT < packet.len() {
-        return refused(refusal::PACKET_TOO_LONG);
-    }
-    if room < HEADER + WIDTH + 2 + packet.len() {
-        return refused(refusal::NO_ROOM);
     }
     Check::Allowed { place }
 }

@@ -2,13 +2,12 @@
 use crate::block::BLOCK;
 use crate::block::LIST;
 use crate::block::LIST_LIMIT;
-use crate::block::ROW;
 use crate::block::TUNNEL;
-use crate::padding::put_field;
-use crate::padding::put_padded;
-use crate::writing::key_row;
-use crate::writing::open_row;
 use message::KeyLengths;
+use rows::key_row;
+use rows::layout::ROW;
+use rows::open_row;
+use rows::put_padded;
 ghost use mathlib.Core.Path.{_≡_};
 ghost use Prim.Native.Nat.{_<_, _≤_};
 ghost use lib.ListN.{length};
@@ -56,5 +55,6 @@ pub(crate) fn put_up(state: &mut [u8], list: &[u8])
 {
     put_padded(state, 0, TUNNEL, b"");
     octets::put_octet(state, TUNNEL, 1);
-    put_field(state, LIST, LIST_LIMIT, list);
+    octets::put_octet(state, LIST, list.len() as u8);
+    put_padded(state, LIST + 1, LIST_LIMIT, list);
 }

@@ -1,14 +1,10 @@
-use mathlib.Core.Path.{ap, _∙_}
+use native.Mathlib.Omega.{arith}
 use denote.Ref.{now}
-use Prim.Native.Nat.{ℕ, _+_, _*_, _-_}
-use mathlib.Core.List.{List, _++_}
-use lib.ListN.{drop}
+use Prim.Native.Nat.{_*_}
 use Rattle.rules.specs.Layout as L
-use borrow.Author.Needs.{needs}
-use Rattle.distributor.proofs.PadLaws.{lent-back}
 use Rattle.rules.proofs.RowLaws.{open-row-length}
-use lib.ListN.{take}
-use Rattle.rules.specs.Layout.{rowLength}
+use Rattle.rows.proofs.LentLaws.{lent-row}
+use borrow.Author.Needs.{needs}
 use Rattle.distributor.proofs.storing.put_open.Statement.{statement}
 use Rattle.distributor.proofs.storing.put_open.Tie as tie
 
@@ -16,10 +12,8 @@ returns : tie.Need-returns
 unfolding L.withRow
 returns c =
     let a = c .before .before .before .before .before .before .args in
-    let s = now (a .state) in
-    let at = a .place * rowLength in
-    ap (λ (r : List ℕ). take at s ++ (r ++ drop (at + rowLength - at) (drop at s))) (c .before .before .open-row .ensures)
-    ∙ lent-back s (L.openRow (now (a .identifier)) (a .endpoint)) at rowLength (open-row-length (now (a .identifier)) (a .endpoint))
+    let p = c .before .before .before .before .before .before .pre in
+    lent-row (now (a .state)) _ _ (a .place * L.rowLength) (omega (arith, p)) (open-row-length (now (a .identifier)) (a .endpoint)) (c .before .before .open-row .ensures)
 
 pub put-open-spec : {M : Type 1} → statement M
 put-open-spec =

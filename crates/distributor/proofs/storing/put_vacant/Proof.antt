@@ -1,10 +1,12 @@
 use mathlib.Core.Path.{ap, _∙_}
+use native.Mathlib.Omega.{arith}
 use denote.Ref.{now}
+use mathlib.Core.List.{[]}
 use Prim.Native.Nat.{_*_}
 use Rattle.rules.specs.Layout as L
 use borrow.Author.Needs.{needs}
 use Rattle.octets.specs.Write.{over}
-use Rattle.distributor.proofs.PadLaws.{padded-none}
+use Rattle.rows.proofs.PadLaws.{padded-none, padded-put}
 use Rattle.rules.specs.Layout.{rowLength}
 use Rattle.distributor.proofs.storing.put_vacant.Statement.{statement}
 use Rattle.distributor.proofs.storing.put_vacant.Tie as tie
@@ -13,7 +15,7 @@ returns : tie.Need-returns
 unfolding L.withRow L.vacantRow
 returns c =
     let a = c .before .before .before .before .before .before .args in
-    c .before .before .put-padded .ensures ∙ ap (over (now (a .state)) (a .place * rowLength)) (padded-none rowLength)
+    c .before .before .put-padded .ensures ∙ padded-put (now (a .state)) [] (a .place * rowLength) rowLength (omega (arith, c .before .before .before .before .before .before .pre)) ∙ ap (over (now (a .state)) (a .place * rowLength)) (padded-none rowLength)
 
 pub put-vacant-spec : {M : Type 1} → statement M
 put-vacant-spec =
