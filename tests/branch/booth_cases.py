@@ -138,7 +138,7 @@ def booth_that_is_gone(bench):
     """What cannot be delivered harms nobody else."""
     branch, distributor = bench.up()
     gone, here = branch.booth(), branch.booth()
-    gone.socket.close()
+    gone.socket.connect(("127.0.0.1", 9))   # as closed to the branch, and no other program gets its port
     for _ in range(20):
         distributor.send(messages.tunneled_dtls(gone.identifier, DTLS) + messages.tunneled_dtls(here.identifier, DTLS))
         assert here.receive() == DTLS

@@ -21,8 +21,11 @@ OTHER_KEYS = [bytes(reversed(field)) for field in KEYS]
 class Distributor:
     """Listens for the tunnel; sends octets as it is told and reads messages."""
 
-    def __init__(self, port=0):
-        self.listener = socket.create_server(("127.0.0.1", port))
+    def __init__(self, listens=True):
+        self.listener = socket.socket()
+        self.listener.bind(("127.0.0.1", 0))
+        if listens:
+            self.listener.listen()
         self.listener.settimeout(10)
         self.port = self.listener.getsockname()[1]
         self.tunnel = None

@@ -178,14 +178,13 @@ def reset_while_booths_send(bench):
 
 
 def nobody_listens(bench):
-    distributor = Distributor()
-    distributor.listener.close()
-    branch, _ = bench.start("--retry", "50", distributor=distributor)
+    """Its port is taken all the while, so that nobody else can come to it."""
+    branch, distributor = bench.start("--retry", "50", distributor=Distributor(listens=False))
     for _ in range(3):
         branch.say("tunnel: down: Connection refused; 0 associations gone; next connection in 50 ms")
     assert branch.ask("look 1") == DOWN
-    bench.distributor = branch.distributor = Distributor(distributor.port)
-    branch.distributor.accept()
+    distributor.listener.listen()
+    distributor.accept()
     branch.say("tunnel: up")
 
 

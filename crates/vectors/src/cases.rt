@@ -1,15 +1,15 @@
 // A case is a line: the library, the call, the octets that it is given, a bar, the text of the case.
 // The octets stand in brackets, before the bar or in the text. Any other line is a remark.
-use crate::pieces;
-use crate::print;
 use crate::profiles;
 use crate::reading;
-use crate::rows;
 use crate::sorting;
 use crate::table;
 use crate::tags;
 use crate::writing;
 use distributor::BLOCK;
+use lines::pieces;
+use lines::print;
+use lines::rows;
 
 const CALL: usize = 8;
 

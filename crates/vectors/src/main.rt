@@ -3,20 +3,15 @@
 mod cases;
 mod example;
 mod messages;
-mod numbers;
 mod outcomes;
 mod outputs;
-mod pieces;
-mod print;
 mod profiles;
 mod reading;
 mod records;
-mod rows;
 mod sending;
 mod sorting;
 mod table;
 mod tags;
-mod words;
 mod writes;
 mod writing;
 

@@ -1,7 +1,7 @@
 // What reading the front of lent octets answers, in words.
-use crate::print;
-use crate::words;
-use crate::words::say;
+use lines::print;
+use lines::words;
+use lines::words::say;
 use message::Field;
 use message::Fields;
 use message::Read;

@@ -1,13 +1,13 @@
 // What the table's calls answer, in words: the ends of lines.
 use crate::messages;
-use crate::print;
-use crate::words;
-use crate::words::say;
 use crate::writes;
 use distributor::Ended;
 use distributor::Opened;
 use distributor::Received;
 use distributor::Sent;
+use lines::print;
+use lines::words;
+use lines::words::say;
 use octets::Bounds;
 
 // With what then stands in the output.

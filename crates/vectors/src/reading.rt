@@ -1,8 +1,8 @@
 // Messages read.
 use crate::cases;
 use crate::messages;
-use crate::print;
-use crate::words;
+use lines::print;
+use lines::words;
 
 pub fn case(line: &[u8], given: &[u8]) {
     match cases::call(line) {

@@ -1,12 +1,12 @@
 // A record as Look gives it, in words: a line for it and one for each key field, with the zeros
 // behind its length.
-use crate::print;
-use crate::words;
-use crate::words::say;
 use distributor::Found;
 use distributor::Looked;
 use distributor::Record;
 use distributor::RecordKeys;
+use lines::print;
+use lines::words;
+use lines::words::say;
 
 pub fn looked(l: Looked) {
     say(words::COLON);

@@ -1,10 +1,10 @@
 // Packets sorted by their first octet.
 use crate::cases;
-use crate::print;
-use crate::words;
-use crate::words::say;
 use demux::Kind;
 use demux::Sorted;
+use lines::print;
+use lines::words;
+use lines::words::say;
 
 pub fn case(line: &[u8], given: &[u8]) {
     match cases::call(line) {

@@ -1,11 +1,11 @@
 // The calls of the table, each as a line with its answer. The state lasts from line to line.
 use crate::cases;
-use crate::numbers;
 use crate::outcomes;
 use crate::outputs::FILL;
 use crate::records;
 use crate::sending;
 use distributor::BLOCK;
+use lines::numbers;
 
 pub fn case(state: &mut [u8; BLOCK], line: &[u8], given: &[u8]) {
     match cases::call(line) {

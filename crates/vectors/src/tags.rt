@@ -1,9 +1,9 @@
 // Packets split from their EKT tags.
 use crate::cases;
-use crate::print;
-use crate::words;
-use crate::words::say;
 use ekt::Tag;
+use lines::print;
+use lines::words;
+use lines::words::say;
 
 pub fn case(line: &[u8], given: &[u8]) {
     cases::echo(line);

@@ -1,8 +1,8 @@
 // What then stands in an output, in words: the ends of lines.
 use crate::messages;
-use crate::print;
-use crate::words;
-use crate::words::say;
+use lines::print;
+use lines::words;
+use lines::words::say;
 use message::Write;
 
 pub fn outcome(answer: Write, out: &[u8]) {

@@ -2,11 +2,11 @@
 // other in the row; each field has octets of its own, so that a swap is seen.
 use crate::cases;
 use crate::example;
-use crate::numbers;
 use crate::outputs;
 use crate::outputs::FILL;
 use crate::outputs::ROOM;
 use crate::writes;
+use lines::numbers;
 use message::Write;
 
 pub fn case(line: &[u8], given: &[u8]) {

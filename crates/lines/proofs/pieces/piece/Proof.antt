@@ -2,8 +2,8 @@ use borrow.Author.Needs.{needs}
 use mathlib.Core.Path.{_≡_}
 use Prim.Native.Nat.{_≤_, _-_}
 use lib.ListN.{length}
-use Rattle.vectors.proofs.pieces.piece.Statement.{statement}
-use Rattle.vectors.proofs.pieces.piece.Tie as tie
+use Rattle.lines.proofs.pieces.piece.Statement.{statement}
+use Rattle.lines.proofs.pieces.piece.Tie as tie
 
 -- the place is within the octets, and the loop ends behind the last
 abbrev Inv-loop : tie.InvT-loop

@@ -2,31 +2,33 @@ use borrow.Author.Needs.{needs}
 use mathlib.Core.Path.{_≡_}
 use Prim.Native.Nat.{_≤_, _-_}
 use lib.ListN.{length}
-use Rattle.vectors.proofs.numbers.decimal.Statement.{statement}
-use Rattle.vectors.proofs.numbers.decimal.Tie as tie
+use Rattle.lines.proofs.numbers.from.Statement.{statement}
+use Rattle.lines.proofs.numbers.from.Tie as tie
 
 -- the place is within the octets, and the loop ends behind the last
 abbrev Inv-loop : tie.InvT-loop
-Inv-loop digits n₀ i₀ i-end n i = (i ≤ length digits) × (i-end ≡ length digits)
+Inv-loop line back left₀ i₀ i-end left i = (i ≤ length line) × (i-end ≡ length line)
 
 abbrev μ-loop : tie.MeasureT-loop
-μ-loop digits n₀ i₀ i-end n i = length digits - i
+μ-loop line back left₀ i₀ i-end left i = length line - i
 
-pub decimal-spec : {M : Type 1} → statement M
-decimal-spec =
+pub from-spec : {M : Type 1} → statement M
+from-spec =
     tie.close
     (tie.spec
     Inv-loop
     μ-loop
     (λ c. search needs)
     (λ c. search needs)
+    (λ c. search needs)
+    (λ c κs. search needs)
+    (λ c κs. search needs)
+    (λ c κs. search needs)
     (λ c κs. search needs)
     (λ c. search needs)
     (λ c. search needs)
     (λ c. search needs)
     (λ c. search needs)
     (λ c. search needs)
-    (λ c. search needs)
-    (λ c. search needs)
-    (λ c. search needs)
+    (λ c κs. search needs)
     (λ c. search needs))

@@ -2,8 +2,8 @@ use borrow.Author.Needs.{needs}
 use mathlib.Core.Path.{_≡_}
 use Prim.Native.Nat.{_≤_, _-_}
 use lib.ListN.{length}
-use Rattle.vectors.proofs.rows.fill.Statement.{statement}
-use Rattle.vectors.proofs.rows.fill.Tie as tie
+use Rattle.lines.proofs.rows.fill.Statement.{statement}
+use Rattle.lines.proofs.rows.fill.Tie as tie
 
 -- no more than the count, and the output keeps its length
 abbrev Inv-loop : tie.InvT-loop

@@ -1,6 +1,6 @@
 use borrow.Author.Needs.{needs}
-use Rattle.vectors.proofs.print.two_octets.Statement.{statement}
-use Rattle.vectors.proofs.print.two_octets.Tie as tie
+use Rattle.lines.proofs.print.two_octets.Statement.{statement}
+use Rattle.lines.proofs.print.two_octets.Tie as tie
 
 -- a 16-bit number's quotient by 256 is an octet
 cast-octet : tie.Need-cast-octet
