@@ -44,7 +44,7 @@ fmt:
 
 bench:
 	rt staticlib measure
-	cd bench && cargo run --release --offline
+	bench/run
 	bench/stack
 
 relay: target/bin/relay

@@ -4,7 +4,7 @@
 use crate::table::{Received, Refusal, Table};
 
 /// The length of the distributor's block; `measure_block` tells whether it still is.
-pub const BLOCK: usize = 5638;
+pub const BLOCK: usize = 5510;
 pub const RECORD: usize = 168;
 
 const REFUSED: u64 = 1 << 32;

@@ -17,8 +17,16 @@ const STATES: usize = 16;
 const STRETCHES: usize = 60;
 const CALLS: usize = 2_000;
 const RUNS: usize = 101;
-/// Where a process has its memory moves some figures by a tenth.
-const PROCESSES: usize = 9;
+/// Of each program: where a process has its memory moves some figures by a tenth.
+const PROCESSES: usize = 3;
+
+// Where the linker puts code in the lines of the cache moves figures of short calls by a tenth. So
+// the program is built four times, with all code behind these octets.
+core::arch::global_asm!(
+    ".section .text.hot.shift,\"axR\",@progbits",
+    concat!(".skip ", env!("SHIFT")),
+    ".text"
+);
 
 #[derive(Clone, Copy)]
 enum Case {
@@ -33,6 +41,16 @@ enum Case {
     End,
     Look,
 }
+
+const NAMES: [&str; 7] = [
+    "start",
+    "open",
+    "booth packet",
+    "tunnel octets",
+    "close",
+    "end",
+    "look",
+];
 
 struct Row {
     call: &'static str,
@@ -71,8 +89,11 @@ fn keys(i: usize, length: usize) -> Vec<u8> {
     )
 }
 
-/// Octets lent to calls, one piece behind another, in each run from another line of a page on, so
-/// that no figure hangs on one place.
+/// The lines of a page. Octets lent to calls lie from another of them on in each run, and so does
+/// the state, as its length is an odd number of lines: no figure hangs on one place.
+const LINES: usize = 64;
+
+/// Octets lent to calls, one piece behind another.
 struct Laid {
     octets: Vec<u8>,
     ends: Vec<usize>,
@@ -80,7 +101,7 @@ struct Laid {
 
 impl Laid {
     fn new(pieces: impl Iterator<Item = Vec<u8>>, run: usize) -> Self {
-        let mut octets = vec![0; run * 64 % 4096];
+        let mut octets = vec![0; run % LINES * 64];
         let mut ends = vec![octets.len()];
         for piece in pieces {
             octets.extend(piece);
@@ -121,7 +142,8 @@ fn moving<T: Calls>(from: &T, mut call: impl FnMut(&mut T, usize) -> u64) -> f64
 }
 
 fn once<T: Calls>(case: Case, live: usize, run: usize) -> f64 {
-    let mut t: T = prepared(live);
+    let mut placed: Vec<T> = vec![prepared(live); run % LINES + 1];
+    let t = placed.last_mut().unwrap();
     let n = live.max(1);
     let mut r = Random(run as u64);
     // Which association each call is about: a live one, at random, in each run in another order, so
@@ -130,41 +152,42 @@ fn once<T: Calls>(case: Case, live: usize, run: usize) -> f64 {
     let at = |i: usize| who[i % who.len()];
     let ids: Vec<[u8; 16]> = (0..33).map(identifier).collect();
     let eps: Vec<u32> = (0..33).map(endpoint).collect();
-    let mut out = vec![0xEE; 4200];
+    let mut page = vec![0xEE; 4096 + 4200];
+    let out = &mut page[run % LINES * 64..][..4200];
     let mut record = [0xEE; RECORD];
     let mut more = [0; 3];
     match case {
         Case::Start if live == 0 => {
             let down = T::first();
-            moving(&down, |t, _| t.start(black_box(&[0, 9, 0, 10]), &mut out))
+            moving(&down, |t, _| t.start(black_box(&[0, 9, 0, 10]), out))
         }
-        Case::Start => still(&mut t, |t, _| t.start(black_box(&[0, 9, 0, 10]), &mut out)),
-        Case::Open if live == 32 => still(&mut t, |t, _| t.open(&ids[32], eps[32])),
-        Case::Open => moving(&t, |t, _| t.open(&ids[32], eps[32])),
+        Case::Start => still(t, |t, _| t.start(black_box(&[0, 9, 0, 10]), out)),
+        Case::Open if live == 32 => still(t, |t, _| t.open(&ids[32], eps[32])),
+        Case::Open => moving(t, |t, _| t.open(&ids[32], eps[32])),
         Case::Packet(n) => {
             let packet = Laid::new(std::iter::once(vec![22; n]), run);
-            still(&mut t, |t, i| {
-                t.booth_packet(eps[at(i)], black_box(packet.get(0)), &mut out)
+            still(t, |t, i| {
+                t.booth_packet(eps[at(i)], black_box(packet.get(0)), out)
             })
         }
         Case::Keys(length) => {
             let m = Laid::new((0..n).map(|i| keys(i, length)), run);
-            still(&mut t, |t, i| t.tunnel_octets(m.get(at(i)), &mut more))
+            still(t, |t, i| t.tunnel_octets(m.get(at(i)), &mut more))
         }
         Case::Delivery => {
             let m = Laid::new(ids.iter().map(|id| tunneled_dtls(id, &[22; 1200])), run);
-            still(&mut t, |t, i| t.tunnel_octets(m.get(at(i)), &mut more))
+            still(t, |t, i| t.tunnel_octets(m.get(at(i)), &mut more))
         }
         Case::Disconnect => {
             let m = Laid::new(ids.iter().map(|id| message(5, id)), run);
-            moving(&t, |t, i| t.tunnel_octets(m.get(at(i)), &mut more))
+            moving(t, |t, i| t.tunnel_octets(m.get(at(i)), &mut more))
         }
-        Case::Version => moving(&t, |t, _| {
+        Case::Version => moving(t, |t, _| {
             t.tunnel_octets(black_box(&[2, 0, 1, 3]), &mut more)
         }),
-        Case::Close => moving(&t, |t, i| t.close(&ids[at(i)], &mut out)),
-        Case::End => moving(&t, |t, _| t.end()),
-        Case::Look => still(&mut t, |t, i| t.look(eps[at(i)], &mut record)),
+        Case::Close => moving(t, |t, i| t.close(&ids[at(i)], out)),
+        Case::End => moving(t, |t, _| t.end()),
+        Case::Look => still(t, |t, i| t.look(eps[at(i)], &mut record)),
     }
 }
 
@@ -227,8 +250,7 @@ fn medians(row: &Row) -> (f64, f64) {
 }
 
 /// The medians of every row, from a process of their own.
-fn another_process() -> Vec<(f64, f64)> {
-    let program = std::env::current_exe().unwrap();
+fn another_process(program: &str) -> Vec<(f64, f64)> {
     let output = Command::new(program).arg("--figures").output().unwrap();
     let text = String::from_utf8(output.stdout).unwrap();
     text.lines()
@@ -239,8 +261,7 @@ fn another_process() -> Vec<(f64, f64)> {
         .collect()
 }
 
-fn print_figures() {
-    let figures: Vec<_> = (0..PROCESSES).map(|_| another_process()).collect();
+fn print_figures(figures: &[Vec<(f64, f64)>]) {
     println!("\n| call | case | live | ns Rattle | ns Rust | Rust / Rattle |");
     println!("|---|---|---:|---:|---:|---:|");
     for (i, row) in rows().iter().enumerate() {
@@ -253,34 +274,50 @@ fn print_figures() {
     }
 }
 
+/// The ratio of a call over its cases, each of which counts alike: their geometric mean.
+fn print_calls(figures: &[Vec<(f64, f64)>]) {
+    println!("\n| call | 1 live | 16 live | 32 live |\n|---|---:|---:|---:|");
+    let rows = rows();
+    for call in NAMES {
+        print!("| {call} |");
+        for live in [1, 16, 32] {
+            let of = |p: &Vec<(f64, f64)>| {
+                let cases = rows
+                    .iter()
+                    .zip(p)
+                    .filter(|(r, _)| r.call == call && r.live == live);
+                let logs: Vec<f64> = cases.map(|(_, (a, b))| (b / a).ln()).collect();
+                (logs.iter().sum::<f64>() / logs.len() as f64).exp()
+            };
+            print!(" {:.2} |", median(figures.iter().map(of).collect()));
+        }
+        println!();
+    }
+}
+
 fn print_agreement() {
     let seen = agree::run::<Rattle, Rust>(3000, 1000);
     println!("Both tables gave the same answers and octets (3,000 random lists of 1,000 calls):\n");
     println!("| call | accepted, or more needed | refused |\n|---|---:|---:|");
-    let names = [
-        "start",
-        "open",
-        "booth packet",
-        "tunnel octets",
-        "close",
-        "end",
-        "look",
-    ];
-    for (name, [accepted, refused]) in names.iter().zip(seen) {
+    for (name, [accepted, refused]) in NAMES.iter().zip(seen) {
         println!("| {name} | {accepted} | {refused} |");
     }
 
     agree::run::<stack::Painted, Rust>(300, 1000);
     println!("\nThe most stack that a call took, in octets (300 random lists of 1,000 calls):\n");
     println!("| call | stack |\n|---|---:|");
-    for (name, most) in names.iter().zip(stack::most()) {
+    for (name, most) in NAMES.iter().zip(stack::most()) {
         println!("| {name} | {most} |");
     }
 }
 
+/// The arguments are the programs that measure: this one, built for each place of the code.
 fn main() {
     assert_eq!(unsafe { calls::measure_block() }, calls::BLOCK as u64);
-    if std::env::args().any(|word| word == "--figures") {
+    assert_eq!(size_of::<Rattle>() / 64 % 2, 1);
+    assert_eq!(size_of::<Rust>() / 64 % 2, 1);
+    let words: Vec<String> = std::env::args().skip(1).collect();
+    if words == ["--figures"] {
         for row in rows() {
             let (a, b) = medians(&row);
             println!("{a} {b}");
@@ -288,5 +325,8 @@ fn main() {
         return;
     }
     print_agreement();
-    print_figures();
+    let turns = (0..PROCESSES).flat_map(|_| &words);
+    let figures: Vec<_> = turns.map(|program| another_process(program)).collect();
+    print_figures(&figures);
+    print_calls(&figures);
 }

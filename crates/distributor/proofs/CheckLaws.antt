@@ -2,7 +2,7 @@
 use Prim.Native.Nat.{ℕ}
 use mathlib.Core.Path.{_≡_, refl, ap}
 use native.Mathlib.Omega.{arith}
-use mathlib.Core.Bool.{Bool, true, false, not, cond}
+use mathlib.Core.Bool.{Bool, true, false, not, cond, _||_}
 use Rattle.rules.specs.Verdict.{Verdict, allowed, refusal, refuse}
 use Rattle.distributor.specs.Outcomes.{checked}
 use Rattle.distributor.specs.declared.check.Check.{Check}
@@ -19,3 +19,14 @@ told-refused (refusal m) p {n} t h = let e : n ≡ m = cc in ap refusal e
 pub six-first : (known : Bool) (n p : ℕ) (v : Verdict) → (known ≡ true → v ≡ refusal n) → Check.Refused (cond known n 6) ≡ checked (refuse (not known) 6 v) p
 six-first true n p v h = rw (h refl)
 six-first false n p v h = refl
+
+-- refusal 11 comes before 12, where one search was made for both
+pub eleven-first : (served known : Bool) (p : ℕ) (v : Verdict) → (served || known) ≡ true → Check.Refused (cond known 11 12) ≡ checked (refuse known 11 (refuse served 12 v)) p
+eleven-first served true p v h = refl
+eleven-first true false p v h = refl
+eleven-first false false p v h = cc
+
+pub neither : (served known : Bool) (v : Verdict) → (served || known) ≡ false → refuse known 11 (refuse served 12 v) ≡ v
+neither false false v h = refl
+neither true known v h = cc
+neither false true v h = cc

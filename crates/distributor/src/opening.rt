@@ -4,13 +4,14 @@ use crate::block::PLACES;
 use crate::block::is_up;
 use crate::check::Check;
 use crate::check::refused;
-use crate::search::place_of_endpoint;
+use crate::search::is_taken;
 use crate::search::place_of_identifier;
 use crate::search::vacant_place;
 use crate::storing::put_open;
 use message::limits::WIDTH;
 use octets::refusal;
 ghost use mathlib.Core.Path.{_≡_};
+ghost use mathlib.Core.Bool.{cond};
 ghost use lib.ListN.{length};
 ghost use Rattle.rules.specs.Layout.{blockLength};
 ghost use Rattle.rules.specs.Table as Spec;
@@ -19,6 +20,17 @@ ghost use Rattle.distributor.specs.Outcomes.{checked, openedOf};
 pub enum Opened {
     Refused { number: u8 },
     At { place: usize },
+}
+
+// The identifier or the endpoint is taken; the identifier's refusal comes first.
+fn refused_taken(state: &[u8], identifier: &[u8]) -> Check
+    requires { ⌜ length (now state) ≡ blockLength ⌝ }
+    ensures { λ r. ⌜ r ≡ Check.Refused (cond (Spec.knows (now (state .entry)) (now (identifier .entry))) 11 12) ⌝ }
+{
+    if place_of_identifier(state, identifier) < PLACES {
+        return refused(refusal::IDENTIFIER_LIVE);
+    }
+    refused(refusal::ENDPOINT_LIVE)
 }
 
 fn check_open(state: &[u8], identifier: &[u8], endpoint: u32) -> Check
@@ -31,11 +43,8 @@ fn check_open(state: &[u8], identifier: &[u8], endpoint: u32) -> Check
     if identifier.len() != WIDTH {
         return refused(refusal::IDENTIFIER_LENGTH);
     }
-    if place_of_identifier(state, identifier) < PLACES {
-        return refused(refusal::IDENTIFIER_LIVE);
-    }
-    if place_of_endpoint(state, endpoint) < PLACES {
-        return refused(refusal::ENDPOINT_LIVE);
+    if is_taken(state, identifier, endpoint) {
+        return refused_taken(state, identifier);
     }
     let place = vacant_place(state);
     if place < PLACES {

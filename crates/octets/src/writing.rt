@@ -19,18 +19,12 @@ pub fn put_octet(out: &mut [u8], at: usize, b: u8) -> usize
     }
 }
 
+// Through an array: a compiler makes one store of it.
 pub fn put_number16(out: &mut [u8], at: usize, n: u16) -> usize
     ensures { λ r. ⌜ (r ≡ putEnd (now (out .entry)) at (octets16 n)) × (now (out .exit) ≡ put (now (out .entry)) at (octets16 n)) ⌝ }
 {
-    if at < out.len() {
-        let low = at + 1;
-        if low < out.len() {
-            out[at] = (n / 256 % 256) as u8;
-            out[low] = (n % 256) as u8;
-            return low + 1;
-        }
-    }
-    at
+    let both = [(n / 256 % 256) as u8, (n % 256) as u8];
+    put_octets(out, at, &both)
 }
 
 pub fn put_octets(out: &mut [u8], at: usize, src: &[u8]) -> usize

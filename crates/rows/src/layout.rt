@@ -1,4 +1,4 @@
-// Where things stand in a row: identifier, endpoint, state, profile; then each field behind a length octet; zeros to the end.
+// Where things stand in a row: endpoint, identifier, state, profile; then each field behind a length octet.
 use message::limits::MKI_LIMIT;
 use message::limits::SALT_LIMIT;
 use message::limits::WIDTH;
@@ -6,11 +6,11 @@ use message::limits::WIDTH;
 // The longest key of a profile.
 pub const KEY_LIMIT: usize = 32;
 
-pub const IDENTIFIER: usize = 0;
+pub const ENDPOINT: usize = 0;
 
-pub const ENDPOINT: usize = IDENTIFIER + WIDTH;
+pub const IDENTIFIER: usize = ENDPOINT + 4;
 
-pub const STATE: usize = ENDPOINT + 4;
+pub const STATE: usize = IDENTIFIER + WIDTH;
 
 pub const PROFILE: usize = STATE + 1;
 
@@ -24,5 +24,4 @@ pub const CLIENT_SALT: usize = SERVER_KEY + 1 + KEY_LIMIT;
 
 pub const SERVER_SALT: usize = CLIENT_SALT + 1 + SALT_LIMIT as usize;
 
-// A multiple of 16: of a block lent at one, no identifier lies across two lines of a cache.
-pub const ROW: usize = SERVER_SALT + 1 + SALT_LIMIT as usize + 4;
+pub const ROW: usize = SERVER_SALT + 1 + SALT_LIMIT as usize;

@@ -30,9 +30,9 @@ fn write_open(row: &mut [u8], identifier: &[u8], endpoint: u32)
     requires { ⌜ length (now row) ≡ Spec.rowLength ⌝ }
     ensures { λ _. ⌜ now (row .exit) ≡ Spec.openRow (now (identifier .entry)) endpoint ⌝ }
 {
-    pad(row, IDENTIFIER, WIDTH, identifier);
     octets::put_number16(row, ENDPOINT, (endpoint / 65536) as u16);
     octets::put_number16(row, ENDPOINT + 2, (endpoint % 65536) as u16);
+    pad(row, IDENTIFIER, WIDTH, identifier);
     octets::put_octet(row, STATE, 1);
     pad(row, PROFILE, ROW - PROFILE, b"");
 }

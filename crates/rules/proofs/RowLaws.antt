@@ -4,7 +4,7 @@ use mathlib.Core.Path.{_≡_, refl, sym, _∙_}
 use mathlib.Core.List.{List, [], _∷_, _++_}
 use mathlib.Core.Option.{some, none}
 use native.Mathlib.Omega.{arith}
-use lib.ListN.{length, take, drop, replicate, length-append, length-drop, length-replicate}
+use lib.ListN.{length, take, replicate, length-append, length-replicate}
 use lib.Seq.{length-take-le}
 use Rattle.octets.specs.Number.{octetAt, number16At, number32At}
 use Rattle.octets.specs.Part.{part}
@@ -13,7 +13,7 @@ use Rattle.octets.proofs.HoldLaws.{holds-all, holds-two, holds-part, holds-octe
 use Rattle.message.specs.Limits.{width, mkiLimit, saltLimit}
 use Rattle.rules.specs.Limits.{keyLimit}
 use Rattle.rules.specs.Keys.{Keys}
-use Rattle.rules.specs.Layout.{stateAt, identifierAt, endpointAt, profileAt, mkiAt, clientKeyAt, serverKeyAt, clientSaltAt, serverSaltAt, spareAt, rowLength, live, identifierOf, endpointOf, keysOf, field, padded, octetsOf16, octetsOf32, vacantRow, openRow, keyedRow}
+use Rattle.rules.specs.Layout.{stateAt, identifierAt, endpointAt, profileAt, mkiAt, clientKeyAt, serverKeyAt, clientSaltAt, serverSaltAt, rowLength, live, identifierOf, endpointOf, keysOf, field, padded, octetsOf16, octetsOf32, vacantRow, openRow, keyedRow}
 use Rattle.rules.specs.Answer.{opened, keyed}
 use Rattle.rules.specs.Table.{associationOf}
 use Rattle.rules.specs.View.{slotOf}
@@ -51,11 +51,11 @@ pub open-row : (i : List ℕ) (e : ℕ) → length i ≡ width → slotOf (openR
 unfolding openRow identifierOf endpointOf
 open-row i e w =
     let r = openRow i e in
-    let x2 = holds-two (padded width i ++ octetsOf32 e ++ (1 ∷ [])) (replicate (rowLength - profileAt) 0) (holds-all r refl) profileAt (simp (length-append, padded-length)) in
-    let x1 = holds-two (padded width i ++ octetsOf32 e) (1 ∷ []) (x2 .0) stateAt (simp (length-append, padded-length)) in
-    let x0 = holds-two (padded width i) (octetsOf32 e) (x1 .0) endpointAt (rw padded-length) in
-    let p : part r identifierAt (identifierAt + width) ≡ padded width i = holds-part (x0 .0) (identifierAt + width) (rw padded-length) in
-    slot-opened r i e (p ∙ padded-whole width i w) (holds-number32 e (x0 .1)) (holds-octet (x1 .1))
+    let x2 = holds-two (octetsOf32 e ++ padded width i ++ (1 ∷ [])) (replicate (rowLength - profileAt) 0) (holds-all r refl) profileAt (simp (length-append, padded-length)) in
+    let x1 = holds-two (octetsOf32 e ++ padded width i) (1 ∷ []) (x2 .0) stateAt (simp padded-length) in
+    let x0 = holds-two (octetsOf32 e) (padded width i) (x1 .0) identifierAt refl in
+    let p : part r identifierAt (identifierAt + width) ≡ padded width i = holds-part (x0 .1) (identifierAt + width) (rw padded-length) in
+    slot-opened r i e (p ∙ padded-whole width i w) (holds-number32 e (x0 .0)) (holds-octet (x1 .1))
 
 -- ---- a row with its key fields replaced
 
@@ -80,12 +80,9 @@ module _ (k : Keys) (r : List ℕ) (l : length r ≡ rowLength) where
   kept-length : length (take stateAt r) ≡ stateAt
   kept-length = length-take-le stateAt r (omega arith)
 
-  spare-length : length (drop spareAt r) ≡ rowLength - spareAt
-  spare-length = length-drop spareAt r ∙ omega arith
-
   pub keyed-row-length : length (keyedRow k r) ≡ rowLength
   unfolding keyedRow
-  keyed-row-length = simp (length-append, padded-length, kept-length, spare-length)
+  keyed-row-length = simp (length-append, padded-length, kept-length)
 
   pub keyed-row : Roomy k → slotOf (keyedRow k r) ≡ some (keyed (identifierOf r) (endpointOf r) k)
   unfolding keyedRow keysOf
@@ -99,8 +96,7 @@ module _ (k : Keys) (r : List ℕ) (l : length r ≡ rowLength) where
       let e : List ℕ = field keyLimit (k .serverKey) in
       let g : List ℕ = field saltLimit (k .clientSalt) in
       let h : List ℕ = field saltLimit (k .serverSalt) in
-      let x7 = holds-two (a ++ t ++ b ++ c ++ d ++ e ++ g ++ h) (drop spareAt r) (holds-all q refl) spareAt (simp (length-append, padded-length, kept-length)) in
-      let x6 = holds-two (a ++ t ++ b ++ c ++ d ++ e ++ g) h (x7 .0) serverSaltAt (simp (length-append, padded-length, kept-length)) in
+      let x6 = holds-two (a ++ t ++ b ++ c ++ d ++ e ++ g) h (holds-all q refl) serverSaltAt (simp (length-append, padded-length, kept-length)) in
       let x5 = holds-two (a ++ t ++ b ++ c ++ d ++ e) g (x6 .0) clientSaltAt (simp (length-append, padded-length, kept-length)) in
       let x4 = holds-two (a ++ t ++ b ++ c ++ d) e (x5 .0) serverKeyAt (simp (length-append, padded-length, kept-length)) in
       let x3 = holds-two (a ++ t ++ b ++ c) d (x4 .0) clientKeyAt (simp (length-append, padded-length, kept-length)) in

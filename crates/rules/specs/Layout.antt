@@ -11,16 +11,16 @@ use Rattle.message.specs.Limits.{width, mkiLimit, saltLimit}
 use Rattle.rules.specs.Limits.{places, keyLimit, listLimit}
 use Rattle.rules.specs.Keys.{Keys}
 
--- ---- places in a row: identifier, endpoint, state (0 vacant, 1 open, else keyed), profile; then each field behind a length octet, padded with zeros; zeros to the end
-
-abbrev pub identifierAt : ℕ
-identifierAt = 0
+-- ---- places in a row: endpoint, identifier, state (0 vacant, 1 open, else keyed), profile; then each field behind a length octet, padded with zeros
 
 abbrev pub endpointAt : ℕ
-endpointAt = identifierAt + width
+endpointAt = 0
+
+abbrev pub identifierAt : ℕ
+identifierAt = endpointAt + 4
 
 abbrev pub stateAt : ℕ
-stateAt = endpointAt + 4
+stateAt = identifierAt + width
 
 abbrev pub profileAt : ℕ
 profileAt = stateAt + 1
@@ -40,12 +40,8 @@ clientSaltAt = serverKeyAt + 1 + keyLimit
 abbrev pub serverSaltAt : ℕ
 serverSaltAt = clientSaltAt + 1 + saltLimit
 
-abbrev pub spareAt : ℕ
-spareAt = serverSaltAt + 1 + saltLimit
-
--- a multiple of 16: of a block lent at one, no identifier lies across two lines of a cache
 abbrev pub rowLength : ℕ
-rowLength = spareAt + 4
+rowLength = serverSaltAt + 1 + saltLimit
 
 -- ---- places in the block: the rows, the tunnel (0 down, else up), its profile list behind a length octet
 
@@ -130,13 +126,13 @@ unfoldable pub vacantRow : List ℕ
 vacantRow = replicate rowLength 0
 
 unfoldable pub openRow : List ℕ → ℕ → List ℕ
-openRow identifier endpoint = padded width identifier ++ octetsOf32 endpoint ++ (1 ∷ []) ++ replicate (rowLength - profileAt) 0
+openRow identifier endpoint = octetsOf32 endpoint ++ padded width identifier ++ (1 ∷ []) ++ replicate (rowLength - profileAt) 0
 
--- a row with all its key fields replaced; identifier and endpoint stay, and so do the octets behind the fields
+-- a row with all its key fields replaced; endpoint and identifier stay
 unfoldable pub keyedRow : Keys → List ℕ → List ℕ
 keyedRow k r =
     take stateAt r ++ (2 ∷ []) ++ octetsOf16 (k .profile) ++ field mkiLimit (k .mki) ++ field keyLimit (k .clientKey)
-    ++ field keyLimit (k .serverKey) ++ field saltLimit (k .clientSalt) ++ field saltLimit (k .serverSalt) ++ drop spareAt r
+    ++ field keyLimit (k .serverKey) ++ field saltLimit (k .clientSalt) ++ field saltLimit (k .serverSalt)
 
 -- the block with another row at a place
 unfoldable pub withRow : List ℕ → (place : ℕ) → List ℕ → List ℕ

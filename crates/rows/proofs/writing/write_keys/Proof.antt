@@ -9,7 +9,7 @@ use borrow.Author.Needs.{needs}
 use Rattle.octets.proofs.WriteLaws.{wrote-none, wrote-over, wrote-more}
 use Rattle.octets.specs.Number.{octets16}
 use Rattle.octets.specs.Part.{part}
-use Rattle.octets.proofs.PartLaws.{part-front, part-tail}
+use Rattle.octets.proofs.PartLaws.{part-front}
 use Rattle.octets.specs.Bounds.{partIn}
 use Rattle.message.specs.Limits.{mkiLimit, saltLimit}
 use Rattle.message.specs.Parts.{keyPlaces}
@@ -19,7 +19,7 @@ use Rattle.rules.proofs.FieldLaws.{field-length}
 use Rattle.rows.proofs.RowWriting.{wrote-at, wrote-keep, wrote-all, octets-of-16}
 use Rattle.rules.proofs.KeysRoom.{part-room}
 use lib.ListN.{length-append}
-use Rattle.rules.specs.Layout.{rowLength, stateAt, profileAt, mkiAt, clientKeyAt, serverKeyAt, clientSaltAt, serverSaltAt, spareAt}
+use Rattle.rules.specs.Layout.{rowLength, stateAt, profileAt, mkiAt, clientKeyAt, serverKeyAt, clientSaltAt, serverSaltAt}
 use Rattle.rows.proofs.writing.write_keys.Statement.{statement}
 use Rattle.rows.proofs.writing.write_keys.Tie as tie
 
@@ -71,9 +71,8 @@ returns c =
     let w4 = wrote-over {r = serverKeyAt} (L.field keyLimit (partIn s (k .«client_key»))) w3 (omega (arith, field-length keyLimit (partIn s (k .«client_key»)))) (rw (c .before .before .before .before .before .before .before .before .before .before .before .before .before .before .before .before .before .before .before .before .before .before .before .before .before .before .before .before .key-places .ensures) at (c .before .before .before .before .before .before .before .before .before .before .before .before .before .before .put-part2 .ensures)) in
     let w5 = wrote-over {r = clientSaltAt} (L.field keyLimit (partIn s (k .«server_key»))) w4 (omega (arith, field-length keyLimit (partIn s (k .«server_key»)))) (rw (c .before .before .before .before .before .before .before .before .before .before .before .before .before .before .before .before .before .before .before .before .before .before .before .before .before .before .before .before .key-places .ensures) at (c .before .before .before .before .before .before .before .before .before .before .put-part3 .ensures)) in
     let w6 = wrote-over {r = serverSaltAt} (L.field saltLimit (partIn s (k .«client_salt»))) w5 (omega (arith, field-length saltLimit (partIn s (k .«client_salt»)))) (rw (c .before .before .before .before .before .before .before .before .before .before .before .before .before .before .before .before .before .before .before .before .before .before .before .before .before .before .before .before .key-places .ensures) at (c .before .before .before .before .before .before .put-part4 .ensures)) in
-    let w7 = wrote-over {r = spareAt} (L.field saltLimit (partIn s (k .«server_salt»))) w6 (omega (arith, field-length saltLimit (partIn s (k .«server_salt»)))) (rw (c .before .before .before .before .before .before .before .before .before .before .before .before .before .before .before .before .before .before .before .before .before .before .before .before .before .before .before .before .key-places .ensures) at (c .before .before .put-part5 .ensures)) in
-    let w8 = wrote-keep w7 rowLength (omega arith) (omega arith) in
-    wrote-all w8 (sym n) ∙ rw (part-front o stateAt, part-tail o spareAt rowLength (omega arith), octets-of-16 (a .profile) (omega (arith, c .before .before .before .before .before .before .before .before .before .before .before .before .before .before .before .before .before .before .before .before .before .before .before .before .before .before .before .before .before .before .before .fits)))
+    let w7 = wrote-over {r = rowLength} (L.field saltLimit (partIn s (k .«server_salt»))) w6 (omega (arith, field-length saltLimit (partIn s (k .«server_salt»)))) (rw (c .before .before .before .before .before .before .before .before .before .before .before .before .before .before .before .before .before .before .before .before .before .before .before .before .before .before .before .before .key-places .ensures) at (c .before .before .put-part5 .ensures)) in
+    wrote-all w7 (sym n) ∙ rw (part-front o stateAt, octets-of-16 (a .profile) (omega (arith, c .before .before .before .before .before .before .before .before .before .before .before .before .before .before .before .before .before .before .before .before .before .before .before .before .before .before .before .before .before .before .before .fits)))
 
 pub write-keys-spec : {M : Type 1} → statement M
 write-keys-spec =
