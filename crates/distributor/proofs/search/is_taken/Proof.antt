@@ -15,30 +15,28 @@ use Rattle.distributor.proofs.LoopLaws.{either, first-either, first-nex
 use Rattle.distributor.proofs.search.is_taken.Statement.{statement}
 use Rattle.distributor.proofs.search.is_taken.Tie as tie
 
+abbrev Either : (identifier : List ℕ) (endpoint : ℕ) → List ℕ → Bool
+Either identifier endpoint = either (L.serving endpoint) (L.named identifier)
+
 -- no row before the place has the endpoint or the identifier
 abbrev Behind : (s identifier : List ℕ) (endpoint place : ℕ) → Type 0
-Behind s identifier endpoint place =
-    first (either (L.serving endpoint) (L.named identifier)) (L.rows s) ≡ place + first (either (L.serving endpoint) (L.named identifier)) (drop place (L.rows s))
+Behind s identifier endpoint place = first (Either identifier endpoint) (L.rows s) ≡ place + first (Either identifier endpoint) (drop place (L.rows s))
 
 module _ (s identifier : List ℕ) (endpoint i : ℕ) (b : Behind s identifier endpoint i) where
-  test : List ℕ → Bool
-  test = either (L.serving endpoint) (L.named identifier)
+  told : (Spec.serves s endpoint || Spec.knows s identifier) ≡ ltb (first (Either identifier endpoint) (L.rows s)) places
+  unfolding Spec.placeOfEndpoint Spec.placeOfIdentifier
+  told = rw (← (rows-length s)) (sym (first-either (L.serving endpoint) (L.named identifier) (L.rows s)))
 
-  told : ltb (first test (L.rows s)) places ≡ (Spec.serves s endpoint || Spec.knows s identifier)
-  unfolding Spec.placeOfEndpoint Spec.placeOfIdentifier test
-  told = rw (← (rows-length s)) (first-either (L.serving endpoint) (L.named identifier) (L.rows s))
+  next : i < places → Either identifier endpoint (L.rowOf s i) ≡ false → Behind s identifier endpoint (i + 1)
+  unfolding L.rowOf
+  next h f = first-next (Either identifier endpoint) (L.rows s) [] i b (rw rows-length h) f
 
-  next : i < places → test (L.rowOf s i) ≡ false → Behind s identifier endpoint (i + 1)
-  unfolding L.rowOf test
-  next h f = first-next (either (L.serving endpoint) (L.named identifier)) (L.rows s) [] i b (rw rows-length h) f
-
-  here : i < places → test (L.rowOf s i) ≡ true → true ≡ (Spec.serves s endpoint || Spec.knows s identifier)
-  unfolding L.rowOf test
-  here h t = sym (sym told ∙ ap (λ (n : ℕ). ltb n places) (first-here (either (L.serving endpoint) (L.named identifier)) (L.rows s) [] i b (rw rows-length h) t) ∙ lt-ltb _ _ h)
+  here : i < places → Either identifier endpoint (L.rowOf s i) ≡ true → true ≡ (Spec.serves s endpoint || Spec.knows s identifier)
+  unfolding L.rowOf
+  here h t = sym (told ∙ ap (λ (n : ℕ). ltb n places) (first-here (Either identifier endpoint) (L.rows s) [] i b (rw rows-length h) t) ∙ lt-ltb _ _ h)
 
   nowhere : places ≤ i → false ≡ (Spec.serves s endpoint || Spec.knows s identifier)
-  unfolding test
-  nowhere h = sym (sym told ∙ ap (λ (n : ℕ). ltb n places) (first-none (either (L.serving endpoint) (L.named identifier)) (L.rows s) [] i b (rw rows-length h)) ∙ le-ltb _ _ h)
+  nowhere h = sym (told ∙ ap (λ (n : ℕ). ltb n places) (first-none (Either identifier endpoint) (L.rows s) [] i b (rw rows-length h)) ∙ le-ltb _ _ h)
 
 abbrev Inv-loop : tie.InvT-loop
 Inv-loop state identifier endpoint place₀ place = (place ≤ places) × Behind state identifier endpoint place
@@ -53,7 +51,6 @@ holds-either-requires : tie.Need-holds-either-requires Inv-loop μ-loop
 holds-either-requires c κs = (c .before .before .before .before .pre, omega arith)
 
 returns : tie.Need-returns Inv-loop μ-loop
-unfolding test
 returns c = here _ _ _ _ (c .before .before .before .loop .inv .1) (omega arith) (sym (c .before .holds-either .ensures) ∙ c .if1 .taken)
 
 add-place : tie.Need-add-place Inv-loop μ-loop
@@ -63,7 +60,6 @@ loop-less : tie.Need-loop-less Inv-loop μ-loop
 loop-less c = omega arith
 
 loop-again : tie.Need-loop-again Inv-loop μ-loop
-unfolding test
 loop-again c = (omega arith, next _ _ _ _ (c .before .before .before .loop .inv .1) (omega arith) (sym (c .before .holds-either .ensures) ∙ c .if1 .left))
 
 returns-2 : tie.Need-returns-2 Inv-loop μ-loop
