@@ -1,4 +1,5 @@
 pub mod CheckLaws
+pub mod FrontLaws
 pub mod LoopLaws
 pub mod ReceivingLaws
 pub mod RecordReads

@@ -4,6 +4,7 @@ mod block;
 mod check;
 mod closing;
 mod ending;
+mod front;
 mod initial;
 mod looking;
 mod opening;

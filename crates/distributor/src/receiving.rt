@@ -7,6 +7,7 @@ use crate::block::is_up;
 use crate::block::row_at;
 use crate::check::Check;
 use crate::check::refused;
+use crate::front::whole_dtls;
 use crate::search::place_of_identifier;
 use crate::storing::put_down;
 use crate::storing::put_keys;
@@ -216,8 +217,8 @@ fn take_whole(state: &mut [u8], s: &[u8], kind: Kind, body_length: u16) -> Recei
     take_body(state, s, kind, body_length)
 }
 
-// What the front of the octets holds, with the tunnel up.
-fn take_frame(state: &mut [u8], s: &[u8]) -> Received
+// What the front of the octets holds, with the tunnel up: the long way.
+fn take_any(state: &mut [u8], s: &[u8]) -> Received
     requires { ⌜ length (now state) ≡ Layout.blockLength ⌝ }
     ensures { λ r. ⌜ (Out.receivedOf r ≡ Spec.readAnswer (now (state .entry)) (now (s .entry)) (receiving (now (s .entry)))) × (now (state .exit) ≡ Spec.readNext (now (state .entry)) (now (s .entry)) (receiving (now (s .entry)))) ⌝ }
 {
@@ -240,6 +241,19 @@ fn take_frame(state: &mut [u8], s: &[u8]) -> Received
         }
         Frame::Whole { kind, body_length } => take_whole(state, s, kind, body_length),
     }
+}
+
+// A whole TunneledDtls takes the short way: it is what comes most.
+fn take_frame(state: &mut [u8], s: &[u8]) -> Received
+    requires { ⌜ length (now state) ≡ Layout.blockLength ⌝ }
+    ensures { λ r. ⌜ (Out.receivedOf r ≡ Spec.readAnswer (now (state .entry)) (now (s .entry)) (receiving (now (s .entry)))) × (now (state .exit) ≡ Spec.readNext (now (state .entry)) (now (s .entry)) (receiving (now (s .entry)))) ⌝ }
+{
+    let dtls_length = whole_dtls(s);
+    if dtls_length != 0 {
+        let taken = HEADER + (WIDTH + 2 + dtls_length as usize);
+        return deliver(state, s, dtls_length, taken);
+    }
+    take_any(state, s)
 }
 
 fn octets_in(state: &mut [u8], s: &[u8]) -> Received

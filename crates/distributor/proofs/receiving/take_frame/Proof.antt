@@ -1,42 +1,16 @@
-use mathlib.Core.Path.{refl, sym, ap, _∙_}
+use mathlib.Core.Path.{refl, sym}
 use denote.Ref.{now}
-use Rattle.message.specs.Frame.{framingOf}
-use Rattle.rules.specs.Refusals.{received, receiving}
-use Rattle.rules.specs.Table.{fieldsAnswer, fieldsNext}
-use Rattle.distributor.proofs.ReceivingLaws.{of-reading}
 use borrow.Author.Needs.{needs}
+use Rattle.rules.specs.Table.{fieldsNext}
+use Rattle.distributor.proofs.ReceivingLaws.{of-reading}
 use Rattle.distributor.proofs.receiving.take_frame.Statement.{statement}
 use Rattle.distributor.proofs.receiving.take_frame.Tie as tie
 
 returns : tie.Need-returns
-unfolding receiving
+unfolding fieldsNext
 returns c =
-    let a = c .before .before .before .before .before .args in
-    of-reading (now (a .state)) (now (a .s)) (ap (received (now (a .s))) (ap framingOf (sym (c .enum-told .given .1)) ∙ c .before .before .read-frame .ensures)) (refl, refl)
-
-returns-2 : tie.Need-returns-2
-unfolding receiving
-returns-2 c =
-    let a = c .before .before .before .before .before .args in
-    of-reading (now (a .state)) (now (a .s)) (ap (received (now (a .s))) (ap framingOf (sym (c .enum-told2 .given .1)) ∙ c .before .before .read-frame .ensures)) (refl, refl)
-
-returns-3 : tie.Need-returns-3
-unfolding receiving fieldsAnswer fieldsNext
-returns-3 c =
-    let a = c .before .before .before .before .before .before .before .before .before .before .args in
-    of-reading (now (a .state)) (now (a .s)) (ap (received (now (a .s))) (ap framingOf (sym (c .before .before .before .before .before .version .given .1)) ∙ c .before .before .before .before .before .before .before .read-frame .ensures)) (refl, c .before .before .put-down .ensures)
-
-returns-4 : tie.Need-returns-4
-unfolding receiving
-returns-4 c =
-    let a = c .before .before .before .before .before .before .before .before .before .args in
-    of-reading (now (a .state)) (now (a .s)) (ap (received (now (a .s))) (ap framingOf (sym (c .before .before .before .before .enum-told3 .given .1)) ∙ c .before .before .before .before .before .before .read-frame .ensures)) (refl, c .before .before .put-down2 .ensures)
-
-returns-5 : tie.Need-returns-5
-unfolding receiving
-returns-5 c =
-    let a = c .before .before .before .before .before .before .before .before .before .before .args in
-    of-reading (now (a .state)) (now (a .s)) (ap (received (now (a .s))) (ap framingOf (sym (c .before .before .before .before .before .kind .given .1)) ∙ c .before .before .before .before .before .before .before .read-frame .ensures)) (c .before .before .take-whole .ensures)
+    let a = c .before .before .before .before .before .before .args in
+    of-reading (now (a .state)) (now (a .s)) (sym (c .before .before .before .whole-dtls .ensures (c .before .before .if1 .taken))) (c .deliver .ensures, refl)
 
 pub take-frame-spec : {M : Type 1} → statement M
 take-frame-spec =
@@ -46,16 +20,10 @@ take-frame-spec =
     (λ c. search needs)
     (λ c. search needs)
     (λ c. search needs)
-    (λ c κs. search needs)
     (λ c. search needs)
     (λ c κs. search needs)
     (λ c. search needs)
-    (λ c κs. search needs)
     returns
-    returns-2
+    (λ c κs. search needs)
     (λ c. search needs)
-    returns-3
-    (λ c. search needs)
-    returns-4
-    (λ c. search needs)
-    returns-5)
+    (λ c. search needs))
