@@ -1,6 +1,6 @@
 -- What a check tells: the verdict, and the place.
 use Prim.Native.Nat.{ℕ}
-use mathlib.Core.Path.{_≡_, refl, ap}
+use mathlib.Core.Path.{_≡_, refl, sym, ap}
 use native.Mathlib.Omega.{arith}
 use mathlib.Core.Bool.{Bool, true, false, not, cond, _||_}
 use Rattle.rules.specs.Verdict.{Verdict, allowed, refusal, refuse}
@@ -30,3 +30,16 @@ pub neither : (served known : Bool) (v : Verdict) → (served || known) ≡ fals
 neither false false v h = refl
 neither true known v h = cc
 neither false true v h = cc
+
+-- a packet's refusal by itself, 0 for none, is what is left of its verdict
+pub refused-itself : (a b c : Bool) (n : ℕ) → n ≡ cond a 14 (cond b 15 (cond c 13 0)) → (n ≡ 0 → ⊥) → refuse a 14 (refuse b 15 (refuse c 13 allowed)) ≡ refusal n
+refused-itself true b c n e h = ap refusal (sym e)
+refused-itself false true c n e h = ap refusal (sym e)
+refused-itself false false true n e h = ap refusal (sym e)
+refused-itself false false false n e h = absurd (h e)
+
+pub not-refused-itself : (a b c : Bool) (n : ℕ) → n ≡ cond a 14 (cond b 15 (cond c 13 0)) → n ≡ 0 → refuse a 14 (refuse b 15 (refuse c 13 allowed)) ≡ allowed
+not-refused-itself true b c n e h = absurd (omega (arith, e, h))
+not-refused-itself false true c n e h = absurd (omega (arith, e, h))
+not-refused-itself false false true n e h = absurd (omega (arith, e, h))
+not-refused-itself false false false n e h = refl

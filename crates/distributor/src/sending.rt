@@ -16,9 +16,12 @@ use rows::array16;
 use rows::layout::IDENTIFIER;
 ghost use mathlib.Core.Path.{_≡_};
 ghost use mathlib.Core.Bool.{cond};
+ghost use Prim.Native.Nat.{_+_};
+ghost use lib.Dec.{ltb};
 ghost use lib.ListN.{length};
+ghost use Rattle.message.specs.Limits.{header, width};
 ghost use Rattle.rules.specs.Layout.{blockLength};
-ghost use Rattle.rules.specs.Refusals.{notDtls};
+ghost use Rattle.rules.specs.Refusals.{notDtls, tooLong};
 ghost use Rattle.rules.specs.Table as Spec;
 ghost use Rattle.distributor.specs.Outcomes.{checked, Sends};
 
@@ -44,6 +47,22 @@ fn is_not_dtls(packet: &[u8]) -> bool
     }
 }
 
+// The refusal of a packet by itself, or 0.
+fn packet_refusal(packet: &[u8], room: usize) -> u8
+    ensures { λ r. ⌜ r ≡ cond (notDtls (now (packet .entry))) 14 (cond (tooLong (now (packet .entry))) 15 (cond (ltb room (header + width + 2 + length (now (packet .entry)))) 13 0)) ⌝ }
+{
+    if is_not_dtls(packet) {
+        return refusal::NOT_DTLS;
+    }
+    if packet.len() <= PACKET_LIMIT {
+        if HEADER + WIDTH + 2 + packet.len() <= room {
+            return 0;
+        }
+        return refusal::NO_ROOM;
+    }
+    refusal::PACKET_TOO_LONG
+}
+
 // A packet that is refused by itself. Without an association for its endpoint the refusal is 6, which comes first.
 fn refused_packet(state: &[u8], endpoint: u32, number: u8) -> Check
     requires { ⌜ length (now state) ≡ blockLength ⌝ }
@@ -63,14 +82,9 @@ fn check_packet(state: &[u8], endpoint: u32, packet: &[u8], room: usize) -> Chec
     if !is_up(state) {
         return refused(refusal::TUNNEL_DOWN);
     }
-    if is_not_dtls(packet) {
-        return refused_packet(state, endpoint, refusal::NOT_DTLS);
-    }
-    if PACKET_LIMIT < packet.len() {
-        return refused_packet(state, endpoint, refusal::PACKET_TOO_LONG);
-    }
-    if room < HEADER + WIDTH + 2 + packet.len() {
-        return refused_packet(state, endpoint, refusal::NO_ROOM);
+    let number = packet_refusal(packet, room);
+    if number != 0 {
+        return refused_packet(state, endpoint, number);
     }
     let place = place_of_endpoint(state, endpoint);
     if PLACES <= place {

@@ -1,13 +1,16 @@
 use mathlib.Core.Path.{_≡_, sym, ap, _∙_}
 use denote.Ref.{now}
-use Prim.Native.Nat.{ℕ}
+use Prim.Native.Nat.{ℕ, _+_}
 use borrow.Author.Tests.{lt-ltb, le-ltb}
 use mathlib.Core.Bool.{not, true}
 use lib.Dec.{ltb}
+use lib.ListN.{length}
+use Rattle.message.specs.Limits.{header, width}
+use Rattle.rules.specs.Refusals.{notDtls, tooLong}
 use Rattle.rules.specs.Limits.{places}
 use Rattle.rules.specs.Table as Spec
 use Rattle.distributor.specs.declared.check.Check.{Check}
-use Rattle.distributor.proofs.CheckLaws.{six-first}
+use Rattle.distributor.proofs.CheckLaws.{six-first, refused-itself, not-refused-itself}
 use Rattle.distributor.proofs.Sendable.{packet-length}
 use borrow.Author.Needs.{needs}
 use Rattle.distributor.proofs.sending.check_packet.Statement.{statement}
@@ -22,38 +25,22 @@ unfolding Spec.packetVerdict
 returns-2 c =
     let a = c .before .before .before .before .before .before .before .args in
     rw (c .refused-packet .ensures, ap not (sym (c .before .before .before .before .is-up .ensures)) ∙ c .before .before .before .if1 .left)
-    (six-first (Spec.serves (now (a .state)) (a .endpoint)) 14 _ _ (λ h. rw (sym (c .before .before .is-not-dtls .ensures) ∙ c .before .if2 .taken)))
+    (six-first (Spec.serves (now (a .state)) (a .endpoint)) (c .before .before .packet-refusal .result) _ _ (λ h. rw (packet-length (now (a .state)) (c .before .before .before .before .before .before .before .pre) (a .endpoint) (now (a .packet)) h) (refused-itself (notDtls (now (a .packet))) (tooLong (now (a .packet))) (ltb (a .room) (header + width + 2 + length (now (a .packet)))) _ (c .before .before .packet-refusal .ensures) (c .before .if2 .taken))))
 
 returns-3 : tie.Need-returns-3
 unfolding Spec.packetVerdict
-returns-3 c =
-    let a = c .before .before .before .before .before .before .before .before .args in
-    rw (c .refused-packet2 .ensures, ap not (sym (c .before .before .before .before .before .is-up .ensures)) ∙ c .before .before .before .before .if1 .left)
-    (six-first (Spec.serves (now (a .state)) (a .endpoint)) 15 _ _ (λ h. rw (sym (c .before .before .before .is-not-dtls .ensures) ∙ c .before .before .if2 .left, lt-ltb _ _ (c .before .if3 .taken))))
+returns-3 c = rw (c .refused2 .ensures, ap not (sym (c .before .before .before .before .before .before .is-up .ensures)) ∙ c .before .before .before .before .before .if1 .left, ← (c .before .before .place-of-endpoint .ensures), le-ltb _ _ (c .before .if3 .taken))
 
 returns-4 : tie.Need-returns-4
 unfolding Spec.packetVerdict
 returns-4 c =
-    let a = c .before .before .before .before .before .before .before .before .before .args in
-    rw (c .refused-packet3 .ensures, ap not (sym (c .before .before .before .before .before .before .is-up .ensures)) ∙ c .before .before .before .before .before .if1 .left)
-    (six-first (Spec.serves (now (a .state)) (a .endpoint)) 13 _ _ (λ h. rw (sym (c .before .before .before .before .is-not-dtls .ensures) ∙ c .before .before .before .if2 .left, le-ltb _ _ (c .before .before .if3 .left), packet-length (now (a .state)) (c .before .before .before .before .before .before .before .before .before .pre) (a .endpoint) (now (a .packet)) h, lt-ltb _ _ (c .before .if4 .taken))))
-
-returns-5 : tie.Need-returns-5
-unfolding Spec.packetVerdict
-returns-5 c = rw (c .refused2 .ensures, ap not (sym (c .before .before .before .before .before .before .before .before .is-up .ensures)) ∙ c .before .before .before .before .before .before .before .if1 .left, ← (c .before .before .place-of-endpoint .ensures), le-ltb _ _ (c .before .if5 .taken))
-
-returns-6 : tie.Need-returns-6
-unfolding Spec.packetVerdict
-returns-6 c =
-    let a = c .before .before .before .before .before .before .before .before .before .before .args in
-    let v : Spec.serves (now (a .state)) (a .endpoint) ≡ true = ap (λ (n : ℕ). ltb n places) (sym (c .before .place-of-endpoint .ensures)) ∙ lt-ltb _ _ (c .if5 .left) in
+    let a = c .before .before .before .before .before .before .before .before .args in
+    let v : Spec.serves (now (a .state)) (a .endpoint) ≡ true = ap (λ (n : ℕ). ltb n places) (sym (c .before .place-of-endpoint .ensures)) ∙ lt-ltb _ _ (c .if3 .left) in
     rw (
-      ap not (sym (c .before .before .before .before .before .before .before .is-up .ensures)) ∙ c .before .before .before .before .before .before .if1 .left,
+      ap not (sym (c .before .before .before .before .before .is-up .ensures)) ∙ c .before .before .before .before .if1 .left,
       v,
-      sym (c .before .before .before .before .before .is-not-dtls .ensures) ∙ c .before .before .before .before .if2 .left,
-      le-ltb _ _ (c .before .before .before .if3 .left),
-      packet-length (now (a .state)) (c .before .before .before .before .before .before .before .before .before .before .pre) (a .endpoint) (now (a .packet)) v,
-      le-ltb _ _ (c .before .before .if4 .left),
+      packet-length (now (a .state)) (c .before .before .before .before .before .before .before .before .pre) (a .endpoint) (now (a .packet)) v,
+      not-refused-itself (notDtls (now (a .packet))) (tooLong (now (a .packet))) (ltb (a .room) (header + width + 2 + length (now (a .packet)))) _ (c .before .before .before .packet-refusal .ensures) (c .before .before .if2 .left),
     ) (ap Check.Allowed (c .before .place-of-endpoint .ensures))
 
 pub check-packet-spec : {M : Type 1} → statement M
@@ -67,13 +54,6 @@ check-packet-spec =
     (λ c κs. search needs)
     returns-2
     (λ c κs. search needs)
+    (λ c κs. search needs)
     returns-3
-    (λ c. search needs)
-    (λ c. search needs)
-    (λ c. search needs)
-    (λ c κs. search needs)
-    returns-4
-    (λ c κs. search needs)
-    (λ c κs. search needs)
-    returns-5
-    returns-6)
+    returns-4)
