@@ -3,7 +3,7 @@
 # make vectors      run the worked octets and print each answer
 # make check        prove what changed and run the programs
 # make fmt          lay the sources out
-# make bench        ns per call and stack of the distributor's calls: docs/BENCHMARKS.md
+# make bench        ns per call of the distributor's calls, the branches of their search, their stack: docs/BENCHMARKS.md
 # make relay        target/bin/relay, the program that holds the table: docs/RELAY.md
 # make examples     build/branch, a daemon in C; build/branch-demo, the same with the demo's control socket
 #
@@ -45,6 +45,7 @@ fmt:
 bench:
 	rt staticlib measure
 	bench/run
+	bench/branches
 	bench/stack
 
 relay: target/bin/relay

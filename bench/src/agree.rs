@@ -1,6 +1,8 @@
-//! Random lists of calls, given to both tables: every answer and every lent octet must be the same.
+//! Random lists of calls, given to every table: every answer and every lent octet must be the same.
 
-use crate::calls::{Calls, RECORD};
+use crate::calls::{Calls, Rust, RECORD};
+use crate::scan::Scan;
+use crate::sorted::Sorted;
 
 pub struct Random(pub u64);
 
@@ -96,84 +98,151 @@ fn random_octets(r: &mut Random, id: &[u8]) -> Vec<u8> {
     m
 }
 
-/// Gives `lists` lists of `length` calls each to both and counts each answer seen by call: accepted,
-/// refused.
-pub fn run<A: Calls, B: Calls>(lists: usize, length: usize) -> [[usize; 2]; 7] {
+/// A call by its number in `NAMES`, and what is given to it, each call taking what it wants.
+struct Call {
+    number: usize,
+    identifier: Vec<u8>,
+    endpoint: u32,
+    octets: Vec<u8>,
+    out: Vec<u8>,
+}
+
+/// The least and the greatest are among them: an index must not take what lies behind its entries for
+/// one of them.
+fn any_endpoint(i: usize) -> u32 {
+    match i {
+        0 => 0,
+        1 => u32::MAX,
+        _ => endpoint(i),
+    }
+}
+
+fn random_list(r: &mut Random) -> Vec<u8> {
+    let lists: [&[u8]; 6] = [
+        &[0, 9],
+        &[0, 10, 0, 9],
+        &[0, 9, 0, 9],
+        &[],
+        &[0, 9, 0],
+        &[0, 7],
+    ];
+    lists[r.below(12).saturating_sub(6)].to_vec()
+}
+
+fn random_packet(r: &mut Random) -> Vec<u8> {
+    let n = if r.below(10) == 0 {
+        4070 + r.below(20)
+    } else {
+        r.below(300)
+    };
+    let mut packet = r.octets(n);
+    if n > 0 && r.below(8) != 0 {
+        packet[0] = 20 + packet[0] % 44;
+    }
+    packet
+}
+
+fn random_stream(r: &mut Random, identifier: &[u8]) -> Vec<u8> {
+    let mut s = random_octets(r, identifier);
+    // Few versions, as each empties the table.
+    if s.first() == Some(&2) && r.below(4) != 0 {
+        s[0] = 5;
+    }
+    s
+}
+
+fn random_call(r: &mut Random, people: usize) -> Call {
+    let who = r.below(people);
+    let identifier = match r.below(50) {
+        0 => r.octets(15),
+        _ => identifier(who).to_vec(),
+    };
+    let endpoint = any_endpoint(match r.below(10) {
+        0 => r.below(people),
+        _ => who,
+    });
+    let room = match r.below(10) {
+        0 => r.below(40),
+        _ => 4200,
+    };
+    let out = r.octets(room);
+    let number = match r.below(400) {
+        0 => 5,
+        1..=20 => 0,
+        21..=200 => 1,
+        201..=240 => 2,
+        241..=320 => 3,
+        321..=360 => 4,
+        _ => 6,
+    };
+    let octets = match number {
+        0 => random_list(r),
+        2 => random_packet(r),
+        3 => random_stream(r, &identifier),
+        _ => vec![],
+    };
+    Call {
+        number,
+        identifier,
+        endpoint,
+        octets,
+        out,
+    }
+}
+
+/// What a call answered, and all that was lent to it as it is behind the call.
+struct Got {
+    answer: u64,
+    more: [u64; 3],
+    record: [u8; RECORD],
+    out: Vec<u8>,
+}
+
+fn give<T: Calls>(t: &mut T, call: &Call) -> Got {
+    let (mut more, mut record, mut out) = ([7; 3], [7; RECORD], call.out.clone());
+    let (id, ep, s) = (&call.identifier, call.endpoint, &call.octets);
+    let answer = match call.number {
+        0 => t.start(s, &mut out),
+        1 => t.open(id, ep),
+        2 => t.booth_packet(ep, s, &mut out),
+        3 => t.tunnel_octets(s, &mut more),
+        4 => t.close(id, &mut out),
+        5 => t.end(),
+        _ => t.look(ep, &mut record),
+    };
+    Got {
+        answer,
+        more,
+        record,
+        out,
+    }
+}
+
+fn compare(number: usize, a: &Got, b: &Got) {
+    assert_eq!(a.answer, b.answer, "answers of call {number}");
+    assert_eq!(a.more, b.more, "numbers of call {number}");
+    assert!(
+        a.out == b.out && a.record == b.record,
+        "octets of call {number}"
+    );
+}
+
+/// Gives `lists` lists of `length` calls each to the proved table and to both Rust tables, and counts
+/// each answer seen by call: accepted, refused.
+pub fn run<T: Calls>(lists: usize, length: usize) -> [[usize; 2]; 7] {
     let mut seen = [[0; 2]; 7];
     let mut r = Random(9185);
     for list in 0..lists {
-        let mut a = A::first();
-        let mut b = B::first();
+        let mut proved = T::first();
+        let mut scan = Rust::<Scan>::first();
+        let mut sorted = Rust::<Sorted>::first();
         let people = [6, 36, 60][list % 3];
         for _ in 0..length {
-            let who = r.below(people);
-            let id = if r.below(50) == 0 {
-                r.octets(15)
-            } else {
-                identifier(who).to_vec()
-            };
-            let ep = endpoint(if r.below(10) == 0 {
-                r.below(people)
-            } else {
-                who
-            });
-            let room = if r.below(10) == 0 { r.below(40) } else { 4200 };
-            let start = r.octets(room);
-            let (mut x, mut y) = (start.clone(), start);
-            let (mut ra, mut rb) = ([7u8; RECORD], [7u8; RECORD]);
-            let (mut ma, mut mb) = ([7u64; 3], [7u64; 3]);
-            let call = match r.below(400) {
-                0 => 5,
-                1..=20 => 0,
-                21..=200 => 1,
-                201..=240 => 2,
-                241..=320 => 3,
-                321..=360 => 4,
-                _ => 6,
-            };
-            let (p, q) = match call {
-                0 => {
-                    let l: &[u8] = [
-                        &[0, 9][..],
-                        &[0, 10, 0, 9],
-                        &[0, 9, 0, 9],
-                        &[],
-                        &[0, 9, 0],
-                        &[0, 7],
-                    ][r.below(12).saturating_sub(6)];
-                    (a.start(l, &mut x), b.start(l, &mut y))
-                }
-                1 => (a.open(&id, ep), b.open(&id, ep)),
-                2 => {
-                    let n = if r.below(10) == 0 {
-                        4070 + r.below(20)
-                    } else {
-                        r.below(300)
-                    };
-                    let mut packet = r.octets(n);
-                    if n > 0 && r.below(8) != 0 {
-                        packet[0] = 20 + packet[0] % 44;
-                    }
-                    (
-                        a.booth_packet(ep, &packet, &mut x),
-                        b.booth_packet(ep, &packet, &mut y),
-                    )
-                }
-                3 => {
-                    let mut s = random_octets(&mut r, &id);
-                    if s.first() == Some(&2) && r.below(4) != 0 {
-                        s[0] = 5;
-                    }
-                    (a.tunnel_octets(&s, &mut ma), b.tunnel_octets(&s, &mut mb))
-                }
-                4 => (a.close(&id, &mut x), b.close(&id, &mut y)),
-                5 => (a.end(), b.end()),
-                _ => (a.look(ep, &mut ra), b.look(ep, &mut rb)),
-            };
-            assert_eq!(p, q, "answers of call {call}");
-            assert_eq!(ma, mb, "numbers of call {call}");
-            assert!(x == y && ra == rb, "octets of call {call}");
-            seen[call][(p >> 32 != 0) as usize] += 1;
+            let call = random_call(&mut r, people);
+            let got = give(&mut proved, &call);
+            compare(call.number, &got, &give(&mut scan, &call));
+            compare(call.number, &got, &give(&mut sorted, &call));
+            seen[call.number][(got.answer >> 32 != 0) as usize] += 1;
         }
     }
     seen

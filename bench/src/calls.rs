@@ -1,10 +1,10 @@
-//! The seven calls of both tables behind one signature each, so that both are called alike and
-//! neither is inlined into the loops that measure it. `crates/measure` says what the numbers mean.
+//! The seven calls of the tables behind one signature each, so that all are called alike and none
+//! is inlined into the loops that measure it. `crates/measure` says what the numbers mean.
 
-use crate::table::{Received, Refusal, Table};
+use crate::table::{Lookup, Received, Refusal, Table};
 
 /// The length of the distributor's block; `measure_block` tells whether it still is.
-pub const BLOCK: usize = 5510;
+pub const BLOCK: usize = 5672;
 pub const RECORD: usize = 168;
 
 const REFUSED: u64 = 1 << 32;
@@ -93,10 +93,10 @@ impl Calls for Rattle {
     }
 }
 
-/// The ordinary table.
+/// An ordinary table.
 #[derive(Clone)]
 #[repr(align(64))]
-pub struct Rust(pub Table);
+pub struct Rust<L>(pub Table<L>);
 
 fn number(answer: Result<usize, Refusal>) -> u64 {
     match answer {
@@ -105,7 +105,7 @@ fn number(answer: Result<usize, Refusal>) -> u64 {
     }
 }
 
-impl Calls for Rust {
+impl<L: Lookup> Calls for Rust<L> {
     fn first() -> Self {
         Rust(Table::DOWN)
     }

@@ -1,22 +1,31 @@
-//! Measures the distributor's calls against an ordinary Rust table, after both have given the same
-//! answers on random lists of calls. Prints Markdown.
+//! Measures the distributor's calls against two ordinary Rust tables, after all three have given the
+//! same answers on random lists of calls. Prints Markdown.
 
 mod agree;
 mod calls;
+mod scan;
+mod sorted;
 mod stack;
 mod table;
 
 use agree::{endpoint, identifier, media_keys, message, tunneled_dtls, Random};
 use calls::{Calls, Rattle, Rust, RECORD};
+use scan::Scan;
+use sorted::Sorted;
 use std::hint::black_box;
 use std::process::Command;
 use std::time::Instant;
+use table::PLACES;
 
 /// States that one timed stretch goes through, restored before it.
 const STATES: usize = 16;
 const STRETCHES: usize = 60;
 const CALLS: usize = 2_000;
-const RUNS: usize = 101;
+/// A multiple of three: each table is the first equally often.
+const RUNS: usize = 99;
+/// Whom openings at random choose among: so many that their endpoints fall between most of the live
+/// ones, and few enough to stay in the cache.
+const NEWCOMERS: usize = 256;
 /// Of each program: where a process has its memory moves some figures by a tenth.
 const PROCESSES: usize = 3;
 
@@ -31,7 +40,8 @@ core::arch::global_asm!(
 #[derive(Clone, Copy)]
 enum Case {
     Start,
-    Open,
+    /// Of one of so many newcomers.
+    Open(usize),
     Packet(usize),
     Keys(usize),
     Delivery,
@@ -144,14 +154,19 @@ fn moving<T: Calls>(from: &T, mut call: impl FnMut(&mut T, usize) -> u64) -> f64
 fn once<T: Calls>(case: Case, live: usize, run: usize) -> f64 {
     let mut placed: Vec<T> = vec![prepared(live); run % LINES + 1];
     let t = placed.last_mut().unwrap();
-    let n = live.max(1);
+    // Whom a call may be about: someone live, or for an opening a newcomer.
+    let people = match case {
+        Case::Open(newcomers) => PLACES..PLACES + newcomers,
+        _ => 0..live.max(1),
+    };
+    let n = people.len();
+    let ids: Vec<[u8; 16]> = people.clone().map(identifier).collect();
+    let eps: Vec<u32> = people.map(endpoint).collect();
+    // Whom each call is about: one of them, at random, in each run in another order, so that no
+    // processor learns it.
     let mut r = Random(run as u64);
-    // Which association each call is about: a live one, at random, in each run in another order, so
-    // that no processor learns it.
     let who: Vec<usize> = (0..CALLS).map(|_| r.below(n)).collect();
     let at = |i: usize| who[i % who.len()];
-    let ids: Vec<[u8; 16]> = (0..33).map(identifier).collect();
-    let eps: Vec<u32> = (0..33).map(endpoint).collect();
     let mut page = vec![0xEE; 4096 + 4200];
     let out = &mut page[run % LINES * 64..][..4200];
     let mut record = [0xEE; RECORD];
@@ -162,8 +177,8 @@ fn once<T: Calls>(case: Case, live: usize, run: usize) -> f64 {
             moving(&down, |t, _| t.start(black_box(&[0, 9, 0, 10]), out))
         }
         Case::Start => still(t, |t, _| t.start(black_box(&[0, 9, 0, 10]), out)),
-        Case::Open if live == 32 => still(t, |t, _| t.open(&ids[32], eps[32])),
-        Case::Open => moving(t, |t, _| t.open(&ids[32], eps[32])),
+        Case::Open(_) if live == PLACES => still(t, |t, i| t.open(&ids[at(i)], eps[at(i)])),
+        Case::Open(_) => moving(t, |t, i| t.open(&ids[at(i)], eps[at(i)])),
         Case::Packet(n) => {
             let packet = Laid::new(std::iter::once(vec![22; n]), run);
             still(t, |t, i| {
@@ -205,7 +220,12 @@ fn rows() -> Vec<Row> {
     }];
     for (call, answer, case) in [
         ("start", "refusal 17", Case::Start),
-        ("open", "accepted; at 32 refusal 10", Case::Open),
+        ("open", "the same newcomer; at 32 refusal 10", Case::Open(1)),
+        (
+            "open",
+            "newcomers at random; at 32 refusal 10",
+            Case::Open(NEWCOMERS),
+        ),
         ("booth packet", "100 octets", Case::Packet(100)),
         ("booth packet", "1,200 octets", Case::Packet(1200)),
         ("tunnel octets", "keys of 16, salts of 12", Case::Keys(16)),
@@ -233,77 +253,99 @@ fn rows() -> Vec<Row> {
     rows
 }
 
-/// ns per call of both tables in this process: the medians of its runs.
-fn medians(row: &Row) -> (f64, f64) {
-    let (mut a, mut b) = (vec![], vec![]);
+/// The tables in the order of the columns, the proved one first.
+const TABLES: [fn(Case, usize, usize) -> f64; 3] =
+    [once::<Rattle>, once::<Rust<Scan>>, once::<Rust<Sorted>>];
+
+/// ns per call of each table.
+type Figures = [f64; 3];
+
+/// The tables in the order of a run. Each is the first in every third run, and the other two follow
+/// in either order by turns.
+fn turns(run: usize) -> [usize; 3] {
+    let step = 1 + run / 3 % 2;
+    [0, 1, 2].map(|i| (run + i * step) % 3)
+}
+
+/// ns per call of each table in this process: the medians of its runs.
+fn medians(row: &Row) -> Figures {
+    let mut ns = [(); 3].map(|()| vec![]);
     for run in 0..RUNS {
-        // Each table is the first in every other run.
-        if run % 2 == 0 {
-            a.push(once::<Rattle>(row.case, row.live, run));
-            b.push(once::<Rust>(row.case, row.live, run));
-        } else {
-            b.push(once::<Rust>(row.case, row.live, run));
-            a.push(once::<Rattle>(row.case, row.live, run));
+        for table in turns(run) {
+            ns[table].push(TABLES[table](row.case, row.live, run));
         }
     }
-    (median(a), median(b))
+    ns.map(median)
 }
 
 /// The medians of every row, from a process of their own.
-fn another_process(program: &str) -> Vec<(f64, f64)> {
+fn another_process(program: &str) -> Vec<Figures> {
     let output = Command::new(program).arg("--figures").output().unwrap();
     let text = String::from_utf8(output.stdout).unwrap();
     text.lines()
         .map(|line| {
-            let (a, b) = line.split_once(' ').unwrap();
-            (a.parse().unwrap(), b.parse().unwrap())
+            let ns: Vec<f64> = line.split(' ').map(|x| x.parse().unwrap()).collect();
+            ns.try_into().unwrap()
         })
         .collect()
 }
 
-fn print_figures(figures: &[Vec<(f64, f64)>]) {
-    println!("\n| call | case | live | ns Rattle | ns Rust | Rust / Rattle |");
-    println!("|---|---|---:|---:|---:|---:|");
+/// The median over the processes of what each gives.
+fn over(figures: &[Vec<Figures>], of: impl Fn(&[Figures]) -> f64) -> f64 {
+    median(figures.iter().map(|process| of(process)).collect())
+}
+
+fn print_figures(figures: &[Vec<Figures>]) {
+    print!("\n| call | case | live | ns Rattle | ns Rust, scan | ns Rust, sorted index |");
+    println!(" scan / Rattle | sorted / Rattle |");
+    println!("|---|---|---:|---:|---:|---:|---:|---:|");
     for (i, row) in rows().iter().enumerate() {
-        let of = |f: fn((f64, f64)) -> f64| median(figures.iter().map(|p| f(p[i])).collect());
-        let (a, b, ratio) = (of(|x| x.0), of(|x| x.1), of(|x| x.1 / x.0));
+        let [a, b, c] = [0, 1, 2].map(|t| over(figures, |p| p[i][t]));
+        let [scan, sorted] = [1, 2].map(|t| over(figures, |p| p[i][t] / p[i][0]));
         let Row {
             call, answer, live, ..
         } = row;
-        println!("| {call} | {answer} | {live} | {a:.1} | {b:.1} | {ratio:.2} |");
+        println!(
+            "| {call} | {answer} | {live} | {a:.1} | {b:.1} | {c:.1} | {scan:.2} | {sorted:.2} |"
+        );
     }
 }
 
 /// The ratio of a call over its cases, each of which counts alike: their geometric mean.
-fn print_calls(figures: &[Vec<(f64, f64)>]) {
-    println!("\n| call | 1 live | 16 live | 32 live |\n|---|---:|---:|---:|");
+fn ratio(process: &[Figures], call: &str, live: usize, table: usize) -> f64 {
     let rows = rows();
+    let cases = rows
+        .iter()
+        .zip(process)
+        .filter(|(row, _)| row.call == call && row.live == live);
+    let logs: Vec<f64> = cases.map(|(_, ns)| (ns[table] / ns[0]).ln()).collect();
+    (logs.iter().sum::<f64>() / logs.len() as f64).exp()
+}
+
+fn print_calls(figures: &[Vec<Figures>]) {
+    print!("\n| call | scan / Rattle, 1 live | 16 live | 32 live |");
+    println!(" sorted / Rattle, 1 live | 16 live | 32 live |");
+    println!("|---|---:|---:|---:|---:|---:|---:|");
     for call in NAMES {
         print!("| {call} |");
-        for live in [1, 16, 32] {
-            let of = |p: &Vec<(f64, f64)>| {
-                let cases = rows
-                    .iter()
-                    .zip(p)
-                    .filter(|(r, _)| r.call == call && r.live == live);
-                let logs: Vec<f64> = cases.map(|(_, (a, b))| (b / a).ln()).collect();
-                (logs.iter().sum::<f64>() / logs.len() as f64).exp()
-            };
-            print!(" {:.2} |", median(figures.iter().map(of).collect()));
+        for table in [1, 2] {
+            for live in [1, 16, 32] {
+                print!(" {:.2} |", over(figures, |p| ratio(p, call, live, table)));
+            }
         }
         println!();
     }
 }
 
 fn print_agreement() {
-    let seen = agree::run::<Rattle, Rust>(3000, 1000);
-    println!("Both tables gave the same answers and octets (3,000 random lists of 1,000 calls):\n");
+    let seen = agree::run::<Rattle>(3000, 1000);
+    println!("All tables gave the same answers and octets (3,000 random lists of 1,000 calls):\n");
     println!("| call | accepted, or more needed | refused |\n|---|---:|---:|");
     for (name, [accepted, refused]) in NAMES.iter().zip(seen) {
         println!("| {name} | {accepted} | {refused} |");
     }
 
-    agree::run::<stack::Painted, Rust>(300, 1000);
+    agree::run::<stack::Painted>(300, 1000);
     println!("\nThe most stack that a call took, in octets (300 random lists of 1,000 calls):\n");
     println!("| call | stack |\n|---|---:|");
     for (name, most) in NAMES.iter().zip(stack::most()) {
@@ -311,16 +353,28 @@ fn print_agreement() {
     }
 }
 
+/// What the figures rest on.
+fn assert_fair() {
+    assert_eq!(unsafe { calls::measure_block() }, calls::BLOCK as u64);
+    for size in [
+        size_of::<Rattle>(),
+        size_of::<Rust<Scan>>(),
+        size_of::<Rust<Sorted>>(),
+    ] {
+        assert_eq!(size / 64 % 2, 1);
+    }
+    let live: Vec<u32> = (0..PLACES).map(endpoint).collect();
+    assert!((PLACES..PLACES + NEWCOMERS).all(|i| !live.contains(&endpoint(i))));
+}
+
 /// The arguments are the programs that measure: this one, built for each place of the code.
 fn main() {
-    assert_eq!(unsafe { calls::measure_block() }, calls::BLOCK as u64);
-    assert_eq!(size_of::<Rattle>() / 64 % 2, 1);
-    assert_eq!(size_of::<Rust>() / 64 % 2, 1);
+    assert_fair();
     let words: Vec<String> = std::env::args().skip(1).collect();
     if words == ["--figures"] {
         for row in rows() {
-            let (a, b) = medians(&row);
-            println!("{a} {b}");
+            let [a, b, c] = medians(&row);
+            println!("{a} {b} {c}");
         }
         return;
     }

@@ -22,7 +22,8 @@ pub fn most() -> [usize; 7] {
 }
 
 /// Calls `f` with up to six arguments in registers. Each paint is used in turn, so that an octet
-/// written with the value of one is seen under the other.
+/// written with the value of one is seen under the other. No register that the call may save holds
+/// the paint of the turn, which would not be seen.
 fn painted(call: usize, f: *const (), args: [u64; 6]) -> u64 {
     let paint = TURN.with_borrow_mut(|turn| {
         *turn += 1;
@@ -34,10 +35,17 @@ fn painted(call: usize, f: *const (), args: [u64; 6]) -> u64 {
         let answer: u64;
         unsafe {
             std::arch::asm!(
+                "push rbx",
+                "push rbp",
+                "xor ebx, ebx",
+                "xor ebp, ebp",
+                "xor r15d, r15d",
                 "mov r12, rsp",
                 "mov rsp, r13",
                 "call r14",
                 "mov rsp, r12",
+                "pop rbp",
+                "pop rbx",
                 in("r13") top,
                 in("r14") f,
                 in("rdi") args[0],
@@ -48,6 +56,7 @@ fn painted(call: usize, f: *const (), args: [u64; 6]) -> u64 {
                 in("r9") args[5],
                 lateout("rax") answer,
                 out("r12") _,
+                out("r15") _,
                 clobber_abi("C"),
             );
         }

@@ -1,5 +1,6 @@
 //! An ordinary Rust table that does the work of the distributor's seven calls: an array of records,
-//! searched from the front. It has no heap, no unsafe code and no dependency.
+//! searched from the front for an identifier, and by a `Lookup` for an endpoint. It has no heap, no
+//! unsafe code and no dependency.
 
 pub const PLACES: usize = 32;
 const WIDTH: usize = 16;
@@ -77,7 +78,7 @@ impl Record {
         keys: Keys::NONE,
     };
 
-    fn is_live(&self) -> bool {
+    pub fn is_live(&self) -> bool {
         self.state != State::Vacant
     }
 
@@ -86,12 +87,30 @@ impl Record {
     }
 }
 
+/// How a table finds a live record by its endpoint. Live endpoints are distinct.
+pub trait Lookup: Copy {
+    const EMPTY: Self;
+
+    /// Where an endpoint that is not live is to be entered.
+    type Gap;
+
+    fn find(&self, records: &[Record; PLACES], endpoint: u32) -> Option<usize>;
+
+    /// None where the endpoint is live.
+    fn gap(&self, records: &[Record; PLACES], endpoint: u32) -> Option<Self::Gap>;
+
+    fn insert(&mut self, gap: Self::Gap, endpoint: u32, place: usize);
+
+    fn remove(&mut self, endpoint: u32);
+}
+
 #[derive(Clone, Copy)]
-pub struct Table {
+pub struct Table<L> {
     up: bool,
     list_length: usize,
     list: [u8; 4],
     records: [Record; PLACES],
+    lookup: L,
 }
 
 /// What octets from the key distributor led to.
@@ -186,12 +205,13 @@ fn tunneled_dtls(body: &[u8]) -> Option<(&[u8], &[u8])> {
     (length >= 1 && dtls.len() == length).then_some((identifier, dtls))
 }
 
-impl Table {
-    pub const DOWN: Table = Table {
+impl<L: Lookup> Table<L> {
+    pub const DOWN: Self = Table {
         up: false,
         list_length: 0,
         list: [0; 4],
         records: [Record::VACANT; PLACES],
+        lookup: L::EMPTY,
     };
 
     fn place_of_identifier(&self, identifier: &[u8]) -> Option<usize> {
@@ -201,9 +221,12 @@ impl Table {
     }
 
     fn place_of_endpoint(&self, endpoint: u32) -> Option<usize> {
-        self.records
-            .iter()
-            .position(|r| r.is_live() && r.endpoint == endpoint)
+        self.lookup.find(&self.records, endpoint)
+    }
+
+    fn vacate(&mut self, place: usize) {
+        self.lookup.remove(self.records[place].endpoint);
+        self.records[place] = Record::VACANT;
     }
 
     fn require_up(&self) -> Result<(), Refusal> {
@@ -230,7 +253,7 @@ impl Table {
         out[3] = 0;
         out[4..6].copy_from_slice(&(list.len() as u16).to_be_bytes());
         out[6..].copy_from_slice(list);
-        *self = Table::DOWN;
+        *self = Self::DOWN;
         self.up = true;
         self.list_length = list.len();
         self.list[..list.len()].copy_from_slice(list);
@@ -245,9 +268,9 @@ impl Table {
         if self.place_of_identifier(&identifier).is_some() {
             return Err(Refusal(11));
         }
-        if self.place_of_endpoint(endpoint).is_some() {
+        let Some(gap) = self.lookup.gap(&self.records, endpoint) else {
             return Err(Refusal(12));
-        }
+        };
         let place = self
             .records
             .iter()
@@ -259,6 +282,7 @@ impl Table {
             endpoint,
             keys: Keys::NONE,
         };
+        self.lookup.insert(gap, endpoint, place);
         Ok(place)
     }
 
@@ -346,7 +370,7 @@ impl Table {
             5 => match self.place_of_identifier(body) {
                 None => refused(6),
                 Some(place) => {
-                    self.records[place] = Record::VACANT;
+                    self.vacate(place);
                     Received::Disconnected { taken }
                 }
             },
@@ -373,7 +397,7 @@ impl Table {
                 },
                 None => Received::MoreNeeded,
                 Some(&version) => {
-                    *self = Table::DOWN;
+                    *self = Self::DOWN;
                     Received::Version {
                         version,
                         taken: s.len(),
@@ -382,7 +406,7 @@ impl Table {
             };
         }
         if length > BODY_LIMIT {
-            *self = Table::DOWN;
+            *self = Self::DOWN;
             return Received::Refused {
                 number: 2,
                 taken: 0,
@@ -407,13 +431,13 @@ impl Table {
         out[0] = 5;
         out[1..3].copy_from_slice(&(WIDTH as u16).to_be_bytes());
         out[3..].copy_from_slice(&identifier);
-        self.records[place] = Record::VACANT;
+        self.vacate(place);
         Ok(count)
     }
 
     pub fn end(&mut self) -> Result<(), Refusal> {
         self.require_up()?;
-        *self = Table::DOWN;
+        *self = Self::DOWN;
         Ok(())
     }
 

@@ -4,3 +4,5 @@ pub mod LoopLaws
 pub mod ReceivingLaws
 pub mod RecordReads
 pub mod Sendable
+pub mod SpotLaws
+pub mod WritingLaws

@@ -1,15 +1,13 @@
 -- Searches. One that counts up has the invariant `first p l ≡ i + first p (drop i l)`.
 use Prim.Native.Nat.{ℕ, suc, _+_, _≤_, _<_}
-use mathlib.Core.Path.{_≡_, refl, sym, ap, ap₂, _∙_}
-use mathlib.Core.Bool.{Bool, true, false, _||_}
-use mathlib.Core.List.{List, [], _∷_}
+use mathlib.Core.Path.{_≡_, refl}
+use mathlib.Core.Bool.{Bool, true, false}
+use mathlib.Core.List.{List}
 use native.Mathlib.Omega.{arith}
 use native.Mathlib.Numerals.{add-one}
 use lib.ListN.{length, getD, drop, drop-of-length-le}
 use lib.Seq.{drop-cons}
-use lib.Dec.{ltb}
-use Rattle.rules.specs.Search.{first, someOf}
-use Rattle.rules.proofs.SearchLaws.{some-first}
+use Rattle.rules.specs.Search.{first}
 
 module _ {A : Type 0} (p : A → Bool) (l : List A) (d : A) (i : ℕ) (e : first p l ≡ i + first p (drop i l)) where
   -- what is left after an element that fails the test
@@ -32,23 +30,3 @@ module _ {A : Type 0} (p : A → Bool) (l : List A) (d : A) (i : ℕ) (e : first
   first-none h =
       let s : first p (drop i l) ≡ 0 = rw (drop-of-length-le l h) refl in
       omega (arith, e, s)
-
--- ---- one search for two tests
-
-or-swap : (a b c d : Bool) → ((a || b) || (c || d)) ≡ ((a || c) || (b || d))
-or-swap true b c d = refl
-or-swap false true true d = refl
-or-swap false true false d = refl
-or-swap false false c d = refl
-
-module _ {A : Type 0} (p q : A → Bool) where
-  abbrev pub either : A → Bool
-  either x = p x || q x
-
-  some-either : (l : List A) → someOf either l ≡ (someOf p l || someOf q l)
-  unfolding someOf
-  some-either [] = refl
-  some-either (x ∷ l) = ap (λ (b : Bool). (p x || q x) || b) (some-either l) ∙ or-swap (p x) (q x) (someOf p l) (someOf q l)
-
-  pub first-either : (l : List A) → ltb (first either l) (length l) ≡ (ltb (first p l) (length l) || ltb (first q l) (length l))
-  first-either l = sym (some-first either l) ∙ some-either l ∙ ap₂ _||_ (some-first p l) (some-first q l)

@@ -16,6 +16,7 @@ use Rattle.message.specs.declared.bodies.Fields.the-variants.{MediaKeys, Tunnel
 use Rattle.message.specs.declared.bodies.KeyLengths.{KeyLengths}
 use Rattle.rules.specs.Limits.{places}
 use Rattle.rules.specs.Keys.{keysIn}
+use Rattle.rules.specs.Index.{withoutEntry}
 use Rattle.rules.specs.Layout.{up, rowOf, endpointOf, keyedRow, withRow, vacantRow}
 use Rattle.rules.specs.Verdict.{allowed, refusal}
 use Rattle.rules.specs.Answer.{Answer, refused, keysStored, delivery, removed}
@@ -100,9 +101,9 @@ module _ (s octets : List ℕ) (taken place : ℕ) (p : place ≡ placeOfIdentif
   unfolding fieldsAnswer
   not-delivered n h = rw (not-there h)
 
-  pub disconnected : place < places → {next : List ℕ} → next ≡ withRow s place vacantRow → Fielded s octets taken EndpointDisconnect (removed taken) next
+  pub disconnected : place < places → {next : List ℕ} → next ≡ withoutEntry (withRow s place vacantRow) (endpointOf (rowOf s place)) → Fielded s octets taken EndpointDisconnect (removed taken) next
   unfolding fieldsAnswer fieldsNext
-  disconnected h e = (rw (there h), rw (there h) (e ∙ ap (λ (x : ℕ). withRow s x vacantRow) p))
+  disconnected h e = (rw (there h), rw (there h) (e ∙ ap (λ (x : ℕ). withoutEntry (withRow s x vacantRow) (endpointOf (rowOf s x))) p))
 
   pub not-disconnected : places ≤ place → Fielded s octets taken EndpointDisconnect (refused 6 taken) s
   unfolding fieldsAnswer fieldsNext

@@ -18,7 +18,8 @@ use Rattle.message.specs.Profiles.{entries, sound, goodList}
 use Rattle.message.specs.Write as Write
 use Rattle.message.proofs.VerdictLaws.{Fits, encode-length, output-written}
 use Rattle.rules.specs.Limits.{places, listLimit, packetLimit}
-use Rattle.rules.specs.Layout.{up, blockLength, rowOf, identifierOf, identifierAt, padded, vacantRow, withRow, upBlock}
+use Rattle.rules.specs.Index.{withoutEntry}
+use Rattle.rules.specs.Layout.{up, blockLength, rowOf, endpointOf, identifierOf, identifierAt, padded, vacantRow, withRow, upBlock}
 use Rattle.rules.specs.Verdict.{Verdict, allowed, refusal, after}
 use Rattle.rules.specs.Answer.{Answer, wrote, answered}
 use Rattle.distributor.specs.Outcomes.{checked, Sends, sent}
@@ -142,13 +143,13 @@ module _ (s i out : List ℕ) where
     pub close-place : n < places
     close-place = there n (placeOfIdentifier s i) (close-told .1) (close-passed s i (length out) (sym (close-told .0)))
 
-    pub close-done : (new block : List ℕ) → new ≡ Write.output (endpointDisconnect i) out → block ≡ withRow s n vacantRow
+    pub close-done : (new block : List ℕ) → new ≡ Write.output (endpointDisconnect i) out → block ≡ withoutEntry (withRow s n vacantRow) (endpointOf (rowOf s n))
         → Sends (closeAnswer s i (length out)) out new (Sent.Written (header + width)) × (block ≡ closeNext s i (length out))
     unfolding closeAnswer closeNext
     close-done new block o b =
         let f = close-fits s i (length out) (sym (close-told .0)) in (
           was-sent _ (endpointDisconnect i) _ out new (close-told .0) (f .fits) (close-length i (f .wide)) o,
-          b ∙ ap (λ (k : ℕ). withRow s k vacantRow) (close-told .1) ∙ changed _ (without s i) s (close-told .0),
+          b ∙ ap (λ (k : ℕ). withoutEntry (withRow s k vacantRow) (endpointOf (rowOf s k))) (close-told .1) ∙ changed _ (without s i) s (close-told .0),
         )
 
 -- ---- Booth packet

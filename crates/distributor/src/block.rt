@@ -8,6 +8,13 @@ ghost use Rattle.rules.specs.Layout as Spec;
 
 // Live associations at most.
 pub const PLACES: usize = 32;
+
+// Rounds of a search at most: one more than so many places can be halved.
+pub(crate) const ROUNDS: usize = 6;
+
+// All but the last halve.
+pub(crate) const HALVINGS: usize = ROUNDS - 1;
+
 // The longest good profile list.
 pub const LIST_LIMIT: usize = 4;
 
@@ -16,8 +23,15 @@ pub const TUNNEL: usize = PLACES * ROW;
 
 pub const LIST: usize = TUNNEL + 1;
 
+// The index: the number of its entries, their places, their endpoints.
+pub(crate) const INDEX: usize = LIST + 1 + LIST_LIMIT;
+
+pub(crate) const INDEX_PLACES: usize = INDEX + 2;
+
+pub(crate) const INDEX_ENDPOINTS: usize = INDEX_PLACES + PLACES;
+
 // The length of a block.
-pub const BLOCK: usize = LIST + 1 + LIST_LIMIT;
+pub const BLOCK: usize = INDEX_ENDPOINTS + 4 * PLACES;
 
 pub fn is_up(state: &[u8]) -> bool
     ensures { λ r. ⌜ r ≡ Spec.up (now (state .entry)) ⌝ }

@@ -3,7 +3,7 @@ use crate::block::BLOCK;
 use crate::block::PLACES;
 use crate::block::is_up;
 use crate::block::row_at;
-use crate::search::place_of_endpoint;
+use crate::lookup::place_of_endpoint;
 use octets::refusal;
 use rows::array16;
 use rows::array32;
@@ -139,7 +139,8 @@ fn look_in(state: &[u8], endpoint: u32) -> Looked
             record: no_record(),
         };
     }
-    let place = place_of_endpoint(state, endpoint);
+    let found = place_of_endpoint(state, endpoint);
+    let place = found.place;
     if PLACES <= place {
         return Looked {
             answer: Found::Refused {

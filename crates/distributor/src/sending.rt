@@ -5,7 +5,8 @@ use crate::block::is_up;
 use crate::block::row_at;
 use crate::check::Check;
 use crate::check::refused;
-use crate::search::place_of_endpoint;
+use crate::lookup::is_served;
+use crate::lookup::place_of_endpoint;
 use demux::Kind;
 use demux::Sorted;
 use message::limits::BODY_LIMIT;
@@ -68,13 +69,13 @@ fn refused_packet(state: &[u8], endpoint: u32, number: u8) -> Check
     requires { ⌜ length (now state) ≡ blockLength ⌝ }
     ensures { λ r. ⌜ r ≡ Check.Refused (cond (Spec.serves (now (state .entry)) endpoint) number 6) ⌝ }
 {
-    if place_of_endpoint(state, endpoint) < PLACES {
+    if is_served(state, endpoint) {
         return refused(number);
     }
     refused(refusal::NO_ASSOCIATION)
 }
 
-// The search comes last, where a processor has the least left to do when it foresaw the wrong place.
+// The search comes last: fewer values are kept in registers beside it.
 fn check_packet(state: &[u8], endpoint: u32, packet: &[u8], room: usize) -> Check
     requires { ⌜ length (now state) ≡ blockLength ⌝ }
     ensures { λ r. ⌜ r ≡ checked (Spec.packetVerdict (now (state .entry)) endpoint (now (packet .entry)) room) (Spec.placeOfEndpoint (now (state .entry)) endpoint) ⌝ }
@@ -86,7 +87,8 @@ fn check_packet(state: &[u8], endpoint: u32, packet: &[u8], room: usize) -> Chec
     if number != 0 {
         return refused_packet(state, endpoint, number);
     }
-    let place = place_of_endpoint(state, endpoint);
+    let found = place_of_endpoint(state, endpoint);
+    let place = found.place;
     if PLACES <= place {
         return refused(refusal::NO_ASSOCIATION);
     }

@@ -3,6 +3,9 @@ use crate::block::BLOCK;
 use crate::block::LIST;
 use crate::block::LIST_LIMIT;
 use crate::block::TUNNEL;
+use crate::block::row_at;
+use crate::index::put_in;
+use crate::index::take_out;
 use message::KeyLengths;
 use rows::key_row;
 use rows::layout::ROW;
@@ -14,8 +17,18 @@ ghost use lib.ListN.{length};
 ghost use Rattle.rules.specs.Limits.{places, listLimit};
 ghost use Rattle.rules.specs.Keys.{keysIn};
 ghost use Rattle.rules.specs.Layout as Spec;
+ghost use Rattle.rules.specs.Index as Index;
 
+// The row, and its entry in the index.
 pub(crate) fn put_open(state: &mut [u8], place: usize, identifier: &[u8], endpoint: u32)
+    requires { ⌜ (length (now state) ≡ Spec.blockLength) × (place < places) ⌝ }
+    ensures { λ _. ⌜ now (state .exit) ≡ Index.withEntry (Spec.withRow (now (state .entry)) place (Spec.openRow (now (identifier .entry)) endpoint)) endpoint place ⌝ }
+{
+    put_open_row(state, place, identifier, endpoint);
+    put_in(state, endpoint, place as u8);
+}
+
+fn put_open_row(state: &mut [u8], place: usize, identifier: &[u8], endpoint: u32)
     requires { ⌜ (length (now state) ≡ Spec.blockLength) × (place < places) ⌝ }
     ensures { λ _. ⌜ now (state .exit) ≡ Spec.withRow (now (state .entry)) place (Spec.openRow (now (identifier .entry)) endpoint) ⌝ }
 {
@@ -35,6 +48,15 @@ pub(crate) fn put_keys(state: &mut [u8], place: usize, s: &[u8], profile: u16, l
 
 pub(crate) fn put_vacant(state: &mut [u8], place: usize)
     requires { ⌜ (length (now state) ≡ Spec.blockLength) × (place < places) ⌝ }
+    ensures { λ _. ⌜ now (state .exit) ≡ Index.withoutEntry (Spec.withRow (now (state .entry)) place Spec.vacantRow) (Spec.endpointOf (Spec.rowOf (now (state .entry)) place)) ⌝ }
+{
+    let endpoint = rows::endpoint_of(row_at(state, place));
+    put_vacant_row(state, place);
+    take_out(state, endpoint);
+}
+
+fn put_vacant_row(state: &mut [u8], place: usize)
+    requires { ⌜ (length (now state) ≡ Spec.blockLength) × (place < places) ⌝ }
     ensures { λ _. ⌜ now (state .exit) ≡ Spec.withRow (now (state .entry)) place Spec.vacantRow ⌝ }
 {
     put_padded(state, place * ROW, ROW, b"");
@@ -53,7 +75,7 @@ pub(crate) fn put_up(state: &mut [u8], list: &[u8])
     requires { ⌜ (length (now state) ≡ Spec.blockLength) × (length (now list) ≤ listLimit) ⌝ }
     ensures { λ _. ⌜ now (state .exit) ≡ Spec.upBlock (now (list .entry)) ⌝ }
 {
-    put_padded(state, 0, TUNNEL, b"");
+    put_padded(state, 0, BLOCK, b"");
     octets::put_octet(state, TUNNEL, 1);
     octets::put_octet(state, LIST, list.len() as u8);
     put_padded(state, LIST + 1, LIST_LIMIT, list);

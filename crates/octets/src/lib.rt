@@ -15,6 +15,8 @@ pub use reading::number16;
 pub use reading::number32;
 pub use reading::octet;
 pub use reading::within;
+pub use words::join16;
+pub use words::join32;
 pub use writing::put_number16;
 pub use writing::put_octet;
 pub use writing::put_octets;

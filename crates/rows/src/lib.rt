@@ -11,6 +11,5 @@ pub use padding::put_padded;
 pub use row::endpoint_of;
 pub use row::is_live;
 pub use row::is_named;
-pub use row::is_serving;
 pub use writing::key_row;
 pub use writing::open_row;

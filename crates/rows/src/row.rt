@@ -32,12 +32,3 @@ pub fn is_named(row: &[u8], identifier: &[u8]) -> bool
     }
     false
 }
-
-pub fn is_serving(row: &[u8], endpoint: u32) -> bool
-    ensures { λ r. ⌜ r ≡ Spec.serving endpoint (now (row .entry)) ⌝ }
-{
-    if endpoint_of(row) == endpoint {
-        return is_live(row);
-    }
-    false
-}

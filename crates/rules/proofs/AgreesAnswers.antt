@@ -25,7 +25,7 @@ use Rattle.rules.specs.Cards.{Held, blank, opened, keyed, Cards, filled,
 use Rattle.rules.specs.CardAnswers as CardAnswers
 use Rattle.rules.specs.CardAnswers.{tunnelOn, identifierWith, associationOn, deliveryOn, messageDue, readDue, due}
 use Rattle.rules.specs.Claim.{apart}
-use Rattle.rules.proofs.ViewSteps.{isServing, inSlot, firstWith, has, isDown, startVerdict, openVerdict, packetVerdict, closeVerdict, lookVerdict, keysVerdict, fieldsAnswer, readAnswer, viewAnswer}
+use Rattle.rules.specs.ViewSteps.{isServing, inSlot, firstWith, has, isDown, startVerdict, openVerdict, packetVerdict, closeVerdict, lookVerdict, keysVerdict, fieldsAnswer, readAnswer, viewAnswer}
 use Rattle.rules.proofs.KeepLaws.{first-found, first-none, first-kept, first-is}
 use Rattle.rules.proofs.Accepting.{startOrder, openOrder, closeOrder, keysOrder}
 use Rattle.rules.proofs.ProfilesLaws.{due-reads}

@@ -15,7 +15,7 @@ use Rattle.rules.specs.Verdict.{Verdict, allowed, refusal, after}
 use Rattle.rules.specs.View.{Slot, View, isFor}
 use Rattle.rules.specs.Cards as Cards
 use Rattle.rules.specs.Cards.{Held, blank, opened, keyed, Card, Cards, filled, holding, with, downCard}
-use Rattle.rules.proofs.ViewSteps.{downView}
+use Rattle.rules.specs.ViewSteps.{downView}
 use Rattle.rules.proofs.Choices.{no-both, chosen, no-choice}
 use Rattle.rules.proofs.Accepting.{accepts}
 use Rattle.rules.proofs.Agrees.{Agrees, slotsOn}

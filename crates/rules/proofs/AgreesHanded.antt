@@ -21,7 +21,7 @@ use Rattle.rules.specs.View.{View}
 use Rattle.rules.specs.Cards.{Held, blank, opened, keyed, Cards, filled}
 use Rattle.rules.specs.CardAnswers.{tunnelOn, deliveryOn, messageDue, readDue, due}
 use Rattle.rules.specs.Claim.{apart, nothing, handedBy, handedOn, handedFor, handedRead, handedDue}
-use Rattle.rules.proofs.ViewSteps.{viewAnswer}
+use Rattle.rules.specs.ViewSteps.{viewAnswer}
 use Rattle.rules.proofs.Choices.{no-both}
 use Rattle.rules.proofs.Accepting.{keysOrder}
 use Rattle.rules.proofs.ProfilesLaws.{handed-reads, due-reads}

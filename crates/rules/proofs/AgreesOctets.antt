@@ -22,7 +22,7 @@ use Rattle.rules.specs.Refusals.{receiving}
 use Rattle.rules.specs.View.{View, isFor}
 use Rattle.rules.specs.Cards as Cards
 use Rattle.rules.specs.Cards.{blank, Cards, filled, withKeys, downCard, messageCard, readCard}
-use Rattle.rules.proofs.ViewSteps.{has, downView, keysVerdict, fieldsNext, readNext}
+use Rattle.rules.specs.ViewSteps.{has, downView, keysVerdict, fieldsNext, readNext}
 use Rattle.rules.proofs.Choices.{by-test, chosen}
 use Rattle.rules.proofs.Accepting.{accepts, passes, keys-accepts}
 use Rattle.rules.proofs.ProfilesLaws.{card-reads}

@@ -17,7 +17,7 @@ use Rattle.rules.specs.View.{Slot, View, identifierIn, endpointIn, isFor
 use Rattle.rules.specs.Cards.{Cards, filled, holding, live, endpointLive, allLive}
 use Rattle.rules.specs.CardAnswers.{associationOn}
 use Rattle.rules.specs.Claim.{records, AsCards}
-use Rattle.rules.proofs.ViewSteps.{isVacant, isServing, inSlot, has}
+use Rattle.rules.specs.ViewSteps.{isVacant, isServing, inSlot, has}
 use Rattle.rules.proofs.Choices.{bool-ext}
 use Rattle.rules.proofs.KeepLaws.{nonEmpty, kept, keeps, found-some, some-keep, first-found}
 use Rattle.rules.proofs.DistinctLaws.{distinct-le, distinct-keep, distinct-map}

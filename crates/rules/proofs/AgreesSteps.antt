@@ -21,7 +21,7 @@ use Rattle.rules.specs.Refusals.{wrongWidth, noRoom, startMessage}
 use Rattle.rules.specs.View.{View, isFor}
 use Rattle.rules.specs.Cards as Cards
 use Rattle.rules.specs.Cards.{blank, opened, Cards, filled, endpointLive, allLive}
-use Rattle.rules.proofs.ViewSteps.{isVacant, withSlot, downView, upView, isDown, startVerdict, openVerdict, closeVerdict, viewStep}
+use Rattle.rules.specs.ViewSteps.{isVacant, withSlot, downView, upView, isDown, startVerdict, openVerdict, closeVerdict, viewStep}
 use Rattle.rules.proofs.Choices.{chosen}
 use Rattle.rules.proofs.NamingLaws.{naming-more, naming-once, naming-here}
 use Rattle.rules.proofs.Accepting.{accepts, by-verdict, passes, start-accepts, open-accepts, close-accepts}

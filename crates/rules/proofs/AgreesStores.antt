@@ -17,7 +17,7 @@ use Rattle.rules.specs.Answer.{Association}
 use Rattle.rules.specs.View.{Slot, View, identifierIn, isFor}
 use Rattle.rules.specs.Cards.{Held, blank, opened, keyed, Cards, filled, holding, endpointLive, withKeys}
 use Rattle.rules.specs.CardAnswers.{associationOn}
-use Rattle.rules.proofs.ViewSteps.{isVacant, inSlot, has, firstWith, rekey}
+use Rattle.rules.specs.ViewSteps.{isVacant, inSlot, has, firstWith, rekey}
 use Rattle.rules.proofs.Choices.{no-both, by-test, chosen}
 use Rattle.rules.proofs.KeepLaws.{found-some, first-lt, first-found, first-is, keep-set-neither, keep-set-new, keep-set-first}
 use Rattle.rules.proofs.Agrees.{Agrees, slotsOn, card-on, slots-filled, slots-blank, holding-filled}

@@ -11,7 +11,7 @@ use Rattle.rules.specs.Cards as Cards
 use Rattle.rules.specs.Cards.{fed, next}
 use Rattle.rules.specs.CardAnswers.{due, dues}
 use Rattle.rules.specs.Claim.{Claim, Handed, apart, handedBy, handout, handouts, handedDue, handedDues}
-use Rattle.rules.proofs.RowsLaws.{Legal}
+use Rattle.rules.proofs.Legal.{Legal}
 use Rattle.rules.proofs.ViewLaws.{legal-down, view-down, legal-step, view-step, view-answer}
 use Rattle.rules.proofs.Agrees.{Agrees}
 use Rattle.rules.proofs.AgreesChange.{first-agrees}

@@ -6,10 +6,11 @@ use native.Mathlib.Nat.{div-add-mod', div-div-eq-div-mul}
 use native.Mathlib.Omega.{arith}
 use lib.ListN.{length, take, replicate, length-take, length-append, length-replicate}
 use lib.Seq.{take-append-seam, take-at, take-take}
+use Rattle.octets.specs.Word.{quadAt}
 use Rattle.octets.specs.Number.{number16At, number32At}
 use Rattle.octets.specs.Part.{part}
 use Rattle.octets.proofs.HoldLaws.{Holds, holds-two, holds-part, holds-octet}
-use Rattle.rules.specs.Layout.{padded, field, fieldOf, octetsOf16, octetsOf32}
+use Rattle.rules.specs.Layout.{padded, field, fieldOf, octetsOf16, octetsOf32, lowFirst32}
 
 -- ---- padded fields
 
@@ -58,4 +59,11 @@ holds-number32 {l} {at} n h =
     let h1 = holds-two (n / 16777216 ∷ []) (n / 65536 % 256 ∷ n / 256 % 256 ∷ n % 256 ∷ []) h (at + 1) refl .1 in
     let h2 = holds-two (n / 65536 % 256 ∷ []) (n / 256 % 256 ∷ n % 256 ∷ []) h1 (at + 2) (omega arith) .1 in
     let h3 = holds-two (n / 256 % 256 ∷ []) (n % 256 ∷ []) h2 (at + 2 + 1) refl .1 in
+    rw (holds-octet h, holds-octet h1, holds-octet h2, holds-octet h3) (number32-back n)
+
+pub holds-quad : {l : List ℕ} {at : ℕ} (n : ℕ) → Holds l (lowFirst32 n) at → quadAt l at ≡ n
+holds-quad {l} {at} n h =
+    let h1 = holds-two (n % 256 ∷ []) (n / 256 % 256 ∷ n / 65536 % 256 ∷ n / 16777216 ∷ []) h (at + 1) refl .1 in
+    let h2 = holds-two (n / 256 % 256 ∷ []) (n / 65536 % 256 ∷ n / 16777216 ∷ []) h1 (at + 2) (omega arith) .1 in
+    let h3 = holds-two (n / 65536 % 256 ∷ []) (n / 16777216 ∷ []) h2 (at + 2 + 1) refl .1 in
     rw (holds-octet h, holds-octet h1, holds-octet h2, holds-octet h3) (number32-back n)

@@ -17,7 +17,7 @@ use Rattle.rules.specs.Answer.{Association}
 use Rattle.rules.specs.View.{Slot, identifierIn, isFor}
 use Rattle.rules.specs.Cards.{Held, blank, opened, keyed, filled}
 use Rattle.rules.specs.Claim.{heldIn, heldOn, records}
-use Rattle.rules.proofs.ViewSteps.{isVacant}
+use Rattle.rules.specs.ViewSteps.{isVacant}
 use Rattle.rules.proofs.KeepLaws.{nonEmpty, keeps}
 use Rattle.rules.proofs.Agrees.{slotsOn}
 

@@ -15,8 +15,9 @@ use Rattle.rules.specs.Answer.{Answer, refused, wrote, found, delivery}
 use Rattle.rules.specs.Refusals.{receiving}
 use Rattle.rules.specs.Table.{placeOfIdentifier, knows, packetVerdict, lookVerdict, startAnswer, openAnswer, packetAnswer, closeAnswer, endAnswer, lookAnswer, fieldsAnswer, readAnswer, octetsAnswer, answer}
 use Rattle.rules.specs.View.{view, endpointIn}
-use Rattle.rules.proofs.ViewSteps as Steps
-use Rattle.rules.proofs.ViewSteps.{viewAnswer}
+use Rattle.rules.specs.ViewSteps as Steps
+use Rattle.rules.specs.ViewSteps.{viewAnswer}
+use Rattle.rules.proofs.Legal.{Legal}
 use Rattle.rules.proofs.VerdictLaws.{answered-same, cond-same}
 use Rattle.rules.proofs.ViewTests.{view-up, view-vacant, view-knows, view-known, view-served, association-endpoint}
 use Rattle.rules.proofs.ViewVerdicts.{view-start-verdict, view-open-verdict, view-close-verdict, view-look-verdict, view-keys-verdict, view-packet-message, view-packet-verdict, packet-passed, look-passed}
@@ -39,16 +40,16 @@ module _ (s : List ℕ) where
   read-answer u octets (Read.refused number taken) = refl
   read-answer u octets (Read.accepted f taken) = fields-answer u octets f taken
 
-  pub call-answer : (c : Call) → answer s c ≡ viewAnswer (view s) c
+  pub call-answer : Legal s → (c : Call) → answer s c ≡ viewAnswer (view s) c
   unfolding answer viewAnswer startAnswer openAnswer packetAnswer octetsAnswer closeAnswer endAnswer lookAnswer
-  call-answer (start list room) = rw (view-start-verdict s list room)
-  call-answer (opening i e) = rw (view-open-verdict s i e, view-vacant s)
-  call-answer (boothPacket e packet room) =
-      rw (view-packet-verdict s e packet room)
+  call-answer l (start list room) = rw (view-start-verdict s list room)
+  call-answer l (opening i e) = rw (view-open-verdict s l i e, view-vacant s)
+  call-answer l (boothPacket e packet room) =
+      rw (view-packet-verdict s l e packet room)
       (answered-same (packetVerdict s e packet room) 0 (λ h.
-      ap (λ (m : Message). wrote (encode m)) (sym (view-packet-message s e packet (packet-passed s e packet room h)))))
-  call-answer (tunnelOctets octets) = rw (view-up s) (cond-same (up s) (refused 1 0) (λ u. read-answer u octets (receiving octets)))
-  call-answer (close i room) = rw (view-close-verdict s i room)
-  call-answer end = rw (view-up s)
-  call-answer (look e) =
-      rw (view-look-verdict s e) (answered-same (lookVerdict s e) 0 (λ h. ap found (sym (view-served s e (look-passed s e h)))))
+      ap (λ (m : Message). wrote (encode m)) (sym (view-packet-message s l e packet (packet-passed s e packet room h)))))
+  call-answer l (tunnelOctets octets) = rw (view-up s) (cond-same (up s) (refused 1 0) (λ u. read-answer u octets (receiving octets)))
+  call-answer l (close i room) = rw (view-close-verdict s i room)
+  call-answer l end = rw (view-up s)
+  call-answer l (look e) =
+      rw (view-look-verdict s l e) (answered-same (lookVerdict s e) 0 (λ h. ap found (sym (view-served s l e (look-passed s e h)))))

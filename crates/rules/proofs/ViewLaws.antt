@@ -6,8 +6,8 @@ use Rattle.rules.specs.Call.{Call}
 use Rattle.rules.specs.Layout.{downBlock}
 use Rattle.rules.specs.Table.{step, answer}
 use Rattle.rules.specs.View.{view}
-use Rattle.rules.proofs.ViewSteps.{downView, viewStep, viewAnswer}
-use Rattle.rules.proofs.RowsLaws.{Legal}
+use Rattle.rules.specs.ViewSteps.{downView, viewStep, viewAnswer}
+use Rattle.rules.proofs.Legal.{Legal}
 use Rattle.rules.proofs.Seen.{down-seen}
 use Rattle.rules.proofs.ViewNext.{step-seen}
 use Rattle.rules.proofs.ViewAnswers.{call-answer}
@@ -26,4 +26,4 @@ module _ (s : List ℕ) (l : Legal s) (c : Call) where
   view-step = step-seen s l c .is
 
   pub view-answer : answer s c ≡ viewAnswer (view s) c
-  view-answer = call-answer s c
+  view-answer = call-answer s l c

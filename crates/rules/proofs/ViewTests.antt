@@ -1,6 +1,6 @@
 -- The tests and searches of a block are those of its view.
 use Prim.Native.Nat.{ℕ, _<_}
-use mathlib.Core.Path.{_≡_, refl, ap, ap₂, _∙_}
+use mathlib.Core.Path.{_≡_, refl, sym, ap, ap₂, _∙_}
 use mathlib.Core.Bool.{Bool, true, false, cond, not, _&&_}
 use mathlib.Core.List.{List, [], map}
 use mathlib.Core.Option.{some, none}
@@ -17,9 +17,10 @@ use Rattle.rules.specs.Answer.{opened, keyed}
 use Rattle.rules.specs.Table.{associationOf, placeOfIdentifier, placeOfEndpoint, vacantPlace, knows, serves, hasRoom}
 use Rattle.rules.specs.Tunnel.{isUp}
 use Rattle.rules.specs.View.{Slot, slotOf, view, identifierIn, endpointIn, isFor}
-use Rattle.rules.proofs.ViewSteps.{isVacant, isServing, has, firstWith}
+use Rattle.rules.specs.ViewSteps.{isVacant, isServing, has, firstWith}
 use Rattle.rules.proofs.SearchLaws.{some-first, first-passes, first-along}
 use Rattle.rules.proofs.RowsLaws.{rows-length}
+use Rattle.rules.proofs.Legal.{Legal, place-first}
 use Rattle.rules.proofs.TunnelLaws.{tunnel-up}
 
 pub view-up : (s : List ℕ) → isUp (view s .tunnel) ≡ up s
@@ -98,9 +99,8 @@ module _ (s : List ℕ) where
   unfolding placeOfIdentifier
   view-identifier i = seen-first (isFor i) (named i) (λ r. row-for r i) s
 
-  pub view-endpoint : (e : ℕ) → Search.first (isServing e) (view s .table) ≡ placeOfEndpoint s e
-  unfolding placeOfEndpoint
-  view-endpoint e = seen-first (isServing e) (serving e) (λ r. row-serving r e) s
+  pub view-endpoint : Legal s → (e : ℕ) → Search.first (isServing e) (view s .table) ≡ placeOfEndpoint s e
+  view-endpoint l e = seen-first (isServing e) (serving e) (λ r. row-serving r e) s ∙ sym (place-first s l e)
 
   pub view-vacant : Search.first isVacant (view s .table) ≡ vacantPlace s
   unfolding vacantPlace
@@ -110,9 +110,8 @@ module _ (s : List ℕ) where
   unfolding placeOfIdentifier
   view-knows i = seen-has (isFor i) (named i) (λ r. row-for r i) s
 
-  pub view-serves : (e : ℕ) → has (isServing e) (view s) ≡ serves s e
-  unfolding placeOfEndpoint
-  view-serves e = seen-has (isServing e) (serving e) (λ r. row-serving r e) s
+  pub view-serves : Legal s → (e : ℕ) → has (isServing e) (view s) ≡ serves s e
+  view-serves l e = seen-has (isServing e) (serving e) (λ r. row-serving r e) s ∙ ap (λ (n : ℕ). ltb n places) (sym (place-first s l e))
 
   pub view-room : has isVacant (view s) ≡ hasRoom s
   unfolding vacantPlace
@@ -135,9 +134,8 @@ module _ (s : List ℕ) where
   unfolding placeOfIdentifier
   known-live i h = named-live _ i (found-passes (named i) (ltb-true _ _ h))
 
-  pub served-live : (e : ℕ) → serves s e ≡ true → live (rowOf s (placeOfEndpoint s e)) ≡ true
-  unfolding placeOfEndpoint
-  served-live e h = serving-live _ e (found-passes (serving e) (ltb-true _ _ h))
+  pub served-live : Legal s → (e : ℕ) → serves s e ≡ true → live (rowOf s (placeOfEndpoint s e)) ≡ true
+  served-live l e h = rw (place-first s l e) (serving-live _ e (found-passes (serving e) (ltb-true _ _ (ap (λ (n : ℕ). ltb n places) (sym (place-first s l e)) ∙ h))))
 
   -- and its association is the one that the view finds
   first-with : (p : Slot → Bool) (at : ℕ) → Search.first p (view s .table) ≡ at → live (rowOf s at) ≡ true
@@ -147,5 +145,5 @@ module _ (s : List ℕ) where
   pub view-known : (i : List ℕ) → knows s i ≡ true → firstWith (isFor i) (view s) ≡ associationOf (rowOf s (placeOfIdentifier s i))
   view-known i h = first-with (isFor i) (placeOfIdentifier s i) (view-identifier s i) (known-live i h)
 
-  pub view-served : (e : ℕ) → serves s e ≡ true → firstWith (isServing e) (view s) ≡ associationOf (rowOf s (placeOfEndpoint s e))
-  view-served e h = first-with (isServing e) (placeOfEndpoint s e) (view-endpoint s e) (served-live e h)
+  pub view-served : Legal s → (e : ℕ) → serves s e ≡ true → firstWith (isServing e) (view s) ≡ associationOf (rowOf s (placeOfEndpoint s e))
+  view-served l e h = first-with (isServing e) (placeOfEndpoint s e) (view-endpoint s l e) (served-live l e h)

@@ -15,7 +15,8 @@ use Rattle.rules.specs.Refusals.{wrongWidth, noRoom, notDtls, tooLong}
 use Rattle.rules.specs.Table.{placeOfEndpoint, knows, serves, hasRoom, startVerdict, openVerdict, packetMessage, packetVerdict, closeVerdict, lookVerdict, keysVerdict}
 use Rattle.rules.specs.Tunnel.{listIn}
 use Rattle.rules.specs.View.{view, identifierIn}
-use Rattle.rules.proofs.ViewSteps as Steps
+use Rattle.rules.specs.ViewSteps as Steps
+use Rattle.rules.proofs.Legal.{Legal}
 use Rattle.rules.proofs.TunnelLaws.{tunnel-list}
 use Rattle.rules.proofs.VerdictLaws.{passed}
 use Rattle.rules.proofs.ViewTests.{view-up, view-knows, view-serves, view-room, view-served, association-identifier}
@@ -27,17 +28,17 @@ module _ (s : List ℕ) where
   unfolding Steps.startVerdict startVerdict
   view-start-verdict list room = rw (view-up s)
 
-  pub view-open-verdict : (i : List ℕ) (e : ℕ) → Steps.openVerdict (view s) i e ≡ openVerdict s i e
+  pub view-open-verdict : Legal s → (i : List ℕ) (e : ℕ) → Steps.openVerdict (view s) i e ≡ openVerdict s i e
   unfolding Steps.openVerdict openVerdict
-  view-open-verdict i e = rw (view-up s, view-knows s i, view-serves s e, view-room s)
+  view-open-verdict l i e = rw (view-up s, view-knows s i, view-serves s l e, view-room s)
 
   pub view-close-verdict : (i : List ℕ) (room : ℕ) → Steps.closeVerdict (view s) i room ≡ closeVerdict s i room
   unfolding Steps.closeVerdict closeVerdict
   view-close-verdict i room = rw (view-up s, view-knows s i)
 
-  pub view-look-verdict : (e : ℕ) → Steps.lookVerdict (view s) e ≡ lookVerdict s e
+  pub view-look-verdict : Legal s → (e : ℕ) → Steps.lookVerdict (view s) e ≡ lookVerdict s e
   unfolding Steps.lookVerdict lookVerdict
-  view-look-verdict e = rw (view-up s, view-serves s e)
+  view-look-verdict l e = rw (view-up s, view-serves s l e)
 
   view-list : up s ≡ true → listIn (view s .tunnel) ≡ listOf s
   unfolding view
@@ -49,14 +50,14 @@ module _ (s : List ℕ) where
   view-keys-verdict u i profile k = rw (view-knows s i, view-list u)
 
   -- a message to an endpoint need only be known where it is served
-  pub view-packet-message : (e : ℕ) (packet : List ℕ) → serves s e ≡ true → Steps.packetMessage (view s) e packet ≡ packetMessage s e packet
+  pub view-packet-message : Legal s → (e : ℕ) (packet : List ℕ) → serves s e ≡ true → Steps.packetMessage (view s) e packet ≡ packetMessage s e packet
   unfolding packetMessage
-  view-packet-message e packet h =
-      ap (λ (i : List ℕ). tunneledDtls i packet) (ap identifierIn (view-served s e h) ∙ association-identifier (rowOf s (placeOfEndpoint s e)))
+  view-packet-message l e packet h =
+      ap (λ (i : List ℕ). tunneledDtls i packet) (ap identifierIn (view-served s l e h) ∙ association-identifier (rowOf s (placeOfEndpoint s e)))
 
-  pub view-packet-verdict : (e : ℕ) (packet : List ℕ) (room : ℕ) → Steps.packetVerdict (view s) e packet room ≡ packetVerdict s e packet room
+  pub view-packet-verdict : Legal s → (e : ℕ) (packet : List ℕ) (room : ℕ) → Steps.packetVerdict (view s) e packet room ≡ packetVerdict s e packet room
   unfolding Steps.packetVerdict packetVerdict
-  view-packet-verdict e packet room = rw (view-up s, view-serves s e) (go (serves s e) (view-packet-message e packet))
+  view-packet-verdict l e packet room = rw (view-up s, view-serves s l e) (go (serves s e) (view-packet-message l e packet))
     where
       go : (b : Bool) → (b ≡ true → Steps.packetMessage (view s) e packet ≡ packetMessage s e packet)
           → refuse (not (up s)) 1 (refuse (not b) 6 (refuse (notDtls packet) 14 (refuse (tooLong packet) 15 (refuse (noRoom (Steps.packetMessage (view s) e packet) room) 13 allowed))))
@@ -66,8 +67,9 @@ module _ (s : List ℕ) where
 
 -- ---- what an allowed call has passed
 
-pub record OpenPassed (s i : List ℕ) : Type 0 where
+pub record OpenPassed (s i : List ℕ) (e : ℕ) : Type 0 where
   pub wide : length i ≡ width
+  pub fresh : serves s e ≡ false
   pub room : hasRoom s ≡ true
 
 pub record KeysPassed (s i : List ℕ) (profile : ℕ) (k : KeyLengths) : Type 0 where
@@ -80,12 +82,12 @@ module _ (s : List ℕ) where
   unfolding startVerdict
   start-passed list room h = not-false _ (passed (not (goodList list)) _ _ (passed (up s) _ _ h .1) .0)
 
-  pub open-passed : (i : List ℕ) (e : ℕ) → openVerdict s i e ≡ allowed → OpenPassed s i
+  pub open-passed : (i : List ℕ) (e : ℕ) → openVerdict s i e ≡ allowed → OpenPassed s i e
   unfolding openVerdict
   open-passed i e h =
       let a = passed (wrongWidth i) _ _ (passed (not (up s)) _ _ h .1) in
       let b = passed (serves s e) _ _ (passed (knows s i) _ _ (a .1) .1) in
-      record { wide = eqb-true _ _ (not-false _ (a .0)); room = not-false _ (passed (not (hasRoom s)) _ _ (b .1) .0) }
+      record { wide = eqb-true _ _ (not-false _ (a .0)); fresh = b .0; room = not-false _ (passed (not (hasRoom s)) _ _ (b .1) .0) }
 
   pub close-passed : (i : List ℕ) (room : ℕ) → closeVerdict s i room ≡ allowed → knows s i ≡ true
   unfolding closeVerdict

@@ -43,7 +43,7 @@ serverSaltAt = clientSaltAt + 1 + saltLimit
 abbrev pub rowLength : ℕ
 rowLength = serverSaltAt + 1 + saltLimit
 
--- ---- places in the block: the rows, the tunnel (0 down, else up), its profile list behind a length octet
+-- ---- places in the block: the rows; the tunnel (0 down, else up), its profile list behind a length octet; the index: the number of its entries, their places, their endpoints
 
 abbrev pub tunnelAt : ℕ
 tunnelAt = places * rowLength
@@ -51,8 +51,17 @@ tunnelAt = places * rowLength
 abbrev pub listAt : ℕ
 listAt = tunnelAt + 1
 
+abbrev pub indexAt : ℕ
+indexAt = listAt + 1 + listLimit
+
+abbrev pub indexPlacesAt : ℕ
+indexPlacesAt = indexAt + 2
+
+abbrev pub indexEndpointsAt : ℕ
+indexEndpointsAt = indexPlacesAt + places
+
 abbrev pub blockLength : ℕ
-blockLength = listAt + 1 + listLimit
+blockLength = indexEndpointsAt + 4 * places
 
 -- ---- reading
 
@@ -122,6 +131,10 @@ octetsOf16 n = n / 256 ∷ n % 256 ∷ []
 abbrev pub octetsOf32 : ℕ → List ℕ
 octetsOf32 n = n / 16777216 ∷ n / 65536 % 256 ∷ n / 256 % 256 ∷ n % 256 ∷ []
 
+-- the same with the lowest octet first and the last not cut
+abbrev pub lowFirst32 : ℕ → List ℕ
+lowFirst32 n = n % 256 ∷ n / 256 % 256 ∷ n / 65536 % 256 ∷ n / 16777216 ∷ []
+
 unfoldable pub vacantRow : List ℕ
 vacantRow = replicate rowLength 0
 
@@ -144,4 +157,4 @@ downBlock = replicate blockLength 0
 
 -- tunnel up with a profile list, table empty
 unfoldable pub upBlock : List ℕ → List ℕ
-upBlock list = replicate tunnelAt 0 ++ (1 ∷ field listLimit list)
+upBlock list = replicate tunnelAt 0 ++ (1 ∷ field listLimit list) ++ replicate (blockLength - indexAt) 0

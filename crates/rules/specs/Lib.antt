@@ -4,6 +4,9 @@ pub mod Keys
 pub mod Tunnel
 pub mod Call
 pub mod Layout
+pub mod Halving
+pub mod Order
+pub mod Index
 pub mod Verdict
 pub mod Answer
 pub mod Refusals
@@ -12,3 +15,5 @@ pub mod View
 pub mod Cards
 pub mod CardAnswers
 pub mod Claim
+pub mod ViewSteps
+pub mod Lookup

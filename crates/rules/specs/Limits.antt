@@ -6,6 +6,10 @@ use Rattle.message.specs.Limits.{width, bodyLimit}
 abbrev pub places : ℕ
 places = 32
 
+-- rounds of a search at most: one more than so many places can be halved; document 02, order 2
+abbrev pub rounds : ℕ
+rounds = 6
+
 -- the longest key of a profile, and the longest good profile list
 abbrev pub keyLimit : ℕ
 keyLimit = 32

@@ -15,7 +15,8 @@ use Rattle.rules.specs.Limits.{places}
 use Rattle.rules.specs.Search.{first}
 use Rattle.rules.specs.Keys.{keysIn}
 use Rattle.rules.specs.Call as Call
-use Rattle.rules.specs.Layout.{up, listOf, rows, rowOf, identifierOf, endpointOf, keysOf, named, serving, vacant, stateAt, vacantRow, openRow, keyedRow, withRow, downBlock, upBlock}
+use Rattle.rules.specs.Layout.{up, listOf, rows, rowOf, identifierOf, endpointOf, keysOf, named, vacant, stateAt, vacantRow, openRow, keyedRow, withRow, downBlock, upBlock}
+use Rattle.rules.specs.Index.{spot, placeAtSpot, withEntry, withoutEntry}
 use Rattle.rules.specs.Verdict.{Verdict, allowed, refuse, after}
 use Rattle.rules.specs.Answer.{Association, opened, keyed, Answer, refused, moreNeeded, wrote, placed, ended, found, keysStored, delivery, removed, version, answered}
 use Rattle.rules.specs.Refusals.{wrongWidth, noRoom, notDtls, tooLong, startMessage, receiving}
@@ -27,7 +28,7 @@ unfoldable pub placeOfIdentifier : List ℕ → List ℕ → ℕ
 placeOfIdentifier s identifier = first (named identifier) (rows s)
 
 unfoldable pub placeOfEndpoint : List ℕ → ℕ → ℕ
-placeOfEndpoint s endpoint = first (serving endpoint) (rows s)
+placeOfEndpoint s endpoint = placeAtSpot s (spot s endpoint)
 
 unfoldable pub vacantPlace : List ℕ → ℕ
 vacantPlace s = first vacant (rows s)
@@ -66,7 +67,7 @@ unfoldable pub openAnswer : List ℕ → List ℕ → ℕ → Answer
 openAnswer s identifier endpoint = answered (openVerdict s identifier endpoint) 0 (placed (vacantPlace s))
 
 unfoldable pub openNext : List ℕ → List ℕ → ℕ → List ℕ
-openNext s identifier endpoint = after (openVerdict s identifier endpoint) (withRow s (vacantPlace s) (openRow identifier endpoint)) s
+openNext s identifier endpoint = after (openVerdict s identifier endpoint) (withEntry (withRow s (vacantPlace s) (openRow identifier endpoint)) endpoint (vacantPlace s)) s
 
 -- ---- Booth packet: 1, 6, 14, 15, 13
 
@@ -98,7 +99,7 @@ closeAnswer s identifier room = answered (closeVerdict s identifier room) 0 (wro
 
 -- the block without the association of an identifier
 abbrev pub without : List ℕ → List ℕ → List ℕ
-without s identifier = withRow s (placeOfIdentifier s identifier) vacantRow
+without s identifier = withoutEntry (withRow s (placeOfIdentifier s identifier) vacantRow) (endpointOf (rowOf s (placeOfIdentifier s identifier)))
 
 unfoldable pub closeNext : List ℕ → List ℕ → (room : ℕ) → List ℕ
 closeNext s identifier room = after (closeVerdict s identifier room) (without s identifier) s

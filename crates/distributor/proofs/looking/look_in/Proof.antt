@@ -7,7 +7,7 @@ use borrow.Author.Needs.{needs}
 use Rattle.rules.specs.Table as Spec
 use Rattle.distributor.specs.Record as R
 use Rattle.distributor.proofs.RecordReads.{record-read}
-use Rattle.rules.proofs.RowsLaws.{Legal, row-length}
+use Rattle.rules.proofs.RowsLaws.{Sized, row-length}
 use Rattle.rules.specs.Answer.{found}
 use Rattle.distributor.proofs.looking.look_in.Statement.{statement}
 use Rattle.distributor.proofs.looking.look_in.Tie as tie
@@ -23,19 +23,19 @@ unfolding Spec.lookAnswer Spec.lookVerdict R.lookRecord
 returns-2 c =
     let u : L.up (now (c .before .before .before .before .before .before .args .state)) ≡ true = sym (c .before .before .before .before .is-up .ensures) ∙ not-false _ (c .before .before .before .if1 .left) in
     let p = le-ltb _ _ (c .before .if2 .taken) in
-    (rw (u, ← (c .before .before .place-of-endpoint .ensures), p), c .no-record2 .ensures ∙ rw (u, ← (c .before .before .place-of-endpoint .ensures), p))
+    (rw (u, ← (c .before .before .place-of-endpoint .ensures .0), p), c .no-record2 .ensures ∙ rw (u, ← (c .before .before .place-of-endpoint .ensures .0), p))
 
 returns-3 : tie.Need-returns-3
 unfolding Spec.lookAnswer Spec.lookVerdict R.lookRecord
 returns-3 c =
     let u : L.up (now (c .before .before .before .before .before .before .before .args .state)) ≡ true = sym (c .before .before .before .before .before .is-up .ensures) ∙ not-false _ (c .before .before .before .before .if1 .left) in
     let s = now (c .before .before .before .before .before .before .before .args .state) in
-    let g : Legal s = record { size = c .before .before .before .before .before .before .before .pre } in
+    let g : Sized s = record { size = c .before .before .before .before .before .before .before .pre } in
     let h = c .before .before .if2 .left in
     let p = lt-ltb _ _ h in
-    let row : c .record-of .result ≡ R.recordOf (L.rowOf s (c .before .before .before .place-of-endpoint .result)) = c .record-of .ensures ∙ ap R.recordOf (c .before .row-at .ensures) in
-    let read = record-read (L.rowOf s (c .before .before .before .place-of-endpoint .result)) (row-length s g (c .before .before .before .place-of-endpoint .result) h) in
-    (rw (row, u, ← (c .before .before .before .place-of-endpoint .ensures), p) (ap found read), rw (row, u, ← (c .before .before .before .place-of-endpoint .ensures), p))
+    let row : c .record-of .result ≡ R.recordOf (L.rowOf s (c .before .before .before .place-of-endpoint .result .place)) = c .record-of .ensures ∙ ap R.recordOf (c .before .row-at .ensures) in
+    let read = record-read (L.rowOf s (c .before .before .before .place-of-endpoint .result .place)) (row-length s g (c .before .before .before .place-of-endpoint .result .place) h) in
+    (rw (row, u, ← (c .before .before .before .place-of-endpoint .ensures .0), p) (ap found read), rw (row, u, ← (c .before .before .before .place-of-endpoint .ensures .0), p))
 
 pub look-in-spec : {M : Type 1} → statement M
 look-in-spec =

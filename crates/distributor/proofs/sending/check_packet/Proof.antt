@@ -29,19 +29,19 @@ returns-2 c =
 
 returns-3 : tie.Need-returns-3
 unfolding Spec.packetVerdict
-returns-3 c = rw (c .refused2 .ensures, ap not (sym (c .before .before .before .before .before .before .is-up .ensures)) ∙ c .before .before .before .before .before .if1 .left, ← (c .before .before .place-of-endpoint .ensures), le-ltb _ _ (c .before .if3 .taken))
+returns-3 c = rw (c .refused2 .ensures, ap not (sym (c .before .before .before .before .before .before .is-up .ensures)) ∙ c .before .before .before .before .before .if1 .left, ← (c .before .before .place-of-endpoint .ensures .0), le-ltb _ _ (c .before .if3 .taken))
 
 returns-4 : tie.Need-returns-4
 unfolding Spec.packetVerdict
 returns-4 c =
     let a = c .before .before .before .before .before .before .before .before .args in
-    let v : Spec.serves (now (a .state)) (a .endpoint) ≡ true = ap (λ (n : ℕ). ltb n places) (sym (c .before .place-of-endpoint .ensures)) ∙ lt-ltb _ _ (c .if3 .left) in
+    let v : Spec.serves (now (a .state)) (a .endpoint) ≡ true = ap (λ (n : ℕ). ltb n places) (sym (c .before .place-of-endpoint .ensures .0)) ∙ lt-ltb _ _ (c .if3 .left) in
     rw (
       ap not (sym (c .before .before .before .before .before .is-up .ensures)) ∙ c .before .before .before .before .if1 .left,
       v,
       packet-length (now (a .state)) (c .before .before .before .before .before .before .before .before .pre) (a .endpoint) (now (a .packet)) v,
       not-refused-itself (notDtls (now (a .packet))) (tooLong (now (a .packet))) (ltb (a .room) (header + width + 2 + length (now (a .packet)))) _ (c .before .before .before .packet-refusal .ensures) (c .before .before .if2 .left),
-    ) (ap Check.Allowed (c .before .place-of-endpoint .ensures))
+    ) (ap Check.Allowed (c .before .place-of-endpoint .ensures .0))
 
 pub check-packet-spec : {M : Type 1} → statement M
 check-packet-spec =

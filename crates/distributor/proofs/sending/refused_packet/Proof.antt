@@ -1,17 +1,13 @@
-use mathlib.Core.Path.{sym, ap, _∙_}
-use Prim.Native.Nat.{ℕ}
-use lib.Dec.{ltb}
-use borrow.Author.Tests.{lt-ltb, le-ltb}
-use Rattle.rules.specs.Limits.{places}
+use mathlib.Core.Path.{sym, _∙_}
 use borrow.Author.Needs.{needs}
 use Rattle.distributor.proofs.sending.refused_packet.Statement.{statement}
 use Rattle.distributor.proofs.sending.refused_packet.Tie as tie
 
 returns : tie.Need-returns
-returns c = rw (c .refused .ensures, ap (λ (n : ℕ). ltb n places) (sym (c .before .before .place-of-endpoint .ensures)) ∙ lt-ltb _ _ (c .before .if1 .taken))
+returns c = rw (c .refused .ensures, sym (c .before .before .is-served .ensures) ∙ c .before .if1 .taken)
 
 returns-2 : tie.Need-returns-2
-returns-2 c = rw (c .refused2 .ensures, ap (λ (n : ℕ). ltb n places) (sym (c .before .before .place-of-endpoint .ensures)) ∙ le-ltb _ _ (c .before .if1 .left))
+returns-2 c = rw (c .refused2 .ensures, sym (c .before .before .is-served .ensures) ∙ c .before .if1 .left)
 
 pub refused-packet-spec : {M : Type 1} → statement M
 refused-packet-spec =

@@ -9,7 +9,7 @@ use Rattle.rules.specs.Keys.{keysIn}
 use Rattle.rules.specs.Layout as L
 use Rattle.rules.specs.Layout.{rowLength}
 use Rattle.rules.proofs.RowLaws.{keyed-row-length}
-use Rattle.rules.proofs.RowsLaws.{Legal, row-part, row-length}
+use Rattle.rules.proofs.RowsLaws.{Sized, row-part, row-length}
 use Rattle.rows.specs.Lent.{onRow}
 use Rattle.rows.proofs.LentLaws.{lent-row}
 use borrow.Author.Needs.{needs}

@@ -1,29 +1,19 @@
-use native.Mathlib.Omega.{arith}
+use mathlib.Core.Path.{ap, ap₂, _∙_}
+use mathlib.Core.List.{List}
+use Prim.Native.Nat.{ℕ}
 use denote.Ref.{now}
-use Prim.Native.Nat.{_*_}
 use Rattle.rules.specs.Layout as L
-use Rattle.rules.proofs.RowLaws.{open-row-length}
-use Rattle.rows.proofs.LentLaws.{lent-row}
+use Rattle.rules.specs.Index as Index
 use borrow.Author.Needs.{needs}
 use Rattle.distributor.proofs.storing.put_open.Statement.{statement}
 use Rattle.distributor.proofs.storing.put_open.Tie as tie
 
 returns : tie.Need-returns
-unfolding L.withRow
 returns c =
-    let a = c .before .before .before .before .before .before .args in
-    let p = c .before .before .before .before .before .before .pre in
-    lent-row (now (a .state)) _ _ (a .place * L.rowLength) (omega (arith, p)) (open-row-length (now (a .identifier)) (a .endpoint)) (c .before .before .open-row .ensures)
+    let i = c .before .before in
+    let o = i .before .before .before .before in
+    let a = o .before .before .before .before .args in
+    i .put-in .ensures ∙ ap (λ (s : List ℕ). Index.withEntry s (a .endpoint) (a .place)) (o .put-open-row .ensures)
 
 pub put-open-spec : {M : Type 1} → statement M
-put-open-spec =
-    tie.close
-    (tie.spec
-    (λ c. search needs)
-    (λ c. search needs)
-    (λ c. search needs)
-    (λ c. search needs)
-    (λ c. search needs)
-    (λ c κs. search needs)
-    (λ c. search needs)
-    returns)
+put-open-spec = tie.close (tie.spec (λ c κs. search needs) (λ c. search needs) (λ c κs. search needs) (λ c. search needs) returns)

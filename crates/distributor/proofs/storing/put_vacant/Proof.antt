@@ -1,28 +1,19 @@
-use mathlib.Core.Path.{ap, _∙_}
-use native.Mathlib.Omega.{arith}
+use mathlib.Core.Path.{ap, ap₂, _∙_}
+use mathlib.Core.List.{List}
+use Prim.Native.Nat.{ℕ}
 use denote.Ref.{now}
-use mathlib.Core.List.{[]}
-use Prim.Native.Nat.{_*_}
 use Rattle.rules.specs.Layout as L
+use Rattle.rules.specs.Index as Index
 use borrow.Author.Needs.{needs}
-use Rattle.octets.specs.Write.{over}
-use Rattle.rows.proofs.PadLaws.{padded-none, padded-put}
-use Rattle.rules.specs.Layout.{rowLength}
 use Rattle.distributor.proofs.storing.put_vacant.Statement.{statement}
 use Rattle.distributor.proofs.storing.put_vacant.Tie as tie
 
 returns : tie.Need-returns
-unfolding L.withRow L.vacantRow
 returns c =
-    let a = c .before .before .before .before .before .before .args in
-    c .before .before .put-padded .ensures ∙ padded-put (now (a .state)) [] (a .place * rowLength) rowLength (omega (arith, c .before .before .before .before .before .before .pre)) ∙ ap (over (now (a .state)) (a .place * rowLength)) (padded-none rowLength)
+    let o = c .before .before in
+    let v = o .before .before .before .before in
+    let e = v .before .before in
+    o .take-out .ensures ∙ ap₂ Index.withoutEntry (v .put-vacant-row .ensures) (e .endpoint-of .ensures ∙ ap L.endpointOf (e .before .row-at .ensures))
 
 pub put-vacant-spec : {M : Type 1} → statement M
-put-vacant-spec =
-    tie.close
-    (tie.spec
-    (λ c. search needs)
-    (λ c. search needs)
-    (λ c κs. search needs)
-    (λ c. search needs)
-    returns)
+put-vacant-spec = tie.close (tie.spec (λ c κs. search needs) (λ c κs. search needs) (λ c κs. search needs) (λ c κs. search needs) (λ c. search needs) returns)

@@ -1,7 +1,7 @@
--- The calls on the view: what each answers and makes of tunnel and table, record by record.
+-- The calls on the view: what each answers and makes of tunnel and table, record by record. A search goes from the lowest place on.
 use Prim.Native.Nat.{ℕ}
 use mathlib.Core.Bool.{Bool, true, false, cond, not}
-use mathlib.Core.List.{List, []}
+use mathlib.Core.List.{List, [], _∷_}
 use mathlib.Core.Option.{some, none}
 use lib.Dec.{eqb}
 use lib.ListN.{getD, set, replicate}
@@ -139,3 +139,13 @@ viewStep v (Call.tunnelOctets octets) = cond (isUp (v .tunnel)) (readNext v octe
 viewStep v (Call.close i room) = after (closeVerdict v i room) (withSlot (isFor i) none v) v
 viewStep v Call.end = cond (isUp (v .tunnel)) downView v
 viewStep v (Call.look e) = v
+
+-- ---- a list of calls
+
+unfoldable pub viewRun : View → List Call.Call → View
+viewRun v [] = v
+viewRun v (c ∷ cs) = viewRun (viewStep v c) cs
+
+unfoldable pub viewAnswers : View → List Call.Call → List Answer
+viewAnswers v [] = []
+viewAnswers v (c ∷ cs) = viewAnswer v c ∷ viewAnswers (viewStep v c) cs
