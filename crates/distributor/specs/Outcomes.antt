@@ -3,6 +3,7 @@ use Prim.Native.Nat.{ℕ, _+_}
 use mathlib.Core.Path.{_≡_}
 use mathlib.Core.Bool.{cond}
 use mathlib.Core.List.{List, _++_}
+use mathlib.Core.Option.{Option, some, none}
 use lib.ListN.{length, drop}
 use lib.Dec.{eqb}
 use Rattle.rules.specs.Verdict.{Verdict, allowed, refusal}
@@ -33,25 +34,25 @@ openedOf (Opened.At place) = placed place
 -- ---- calls that write: refused, or so many octets written
 
 pub data Sending : Type 0 where
-  notSent : (number : ℕ) → Sending
+  notSent : (number taken : ℕ) → Sending
   sent : (count : ℕ) → Sending
 
 abbrev pub sendingOf : Sent → Sending
-sendingOf (Sent.Refused number) = notSent number
+sendingOf (Sent.Refused number) = notSent number 0
 sendingOf (Sent.Written count) = sent count
 
 -- an answer of such a call is a refusal or what was written; the others are not theirs
 abbrev pub sending : Answer → Sending
-sending (refused number taken) = notSent number
-sending moreNeeded = notSent 0
+sending (refused number taken) = notSent number taken
+sending moreNeeded = notSent 0 0
 sending (wrote octets) = sent (length octets)
-sending (placed place) = notSent 0
-sending ended = notSent 0
-sending (found a) = notSent 0
-sending (keysStored taken) = notSent 0
-sending (delivery endpoint dtls taken) = notSent 0
-sending (removed taken) = notSent 0
-sending (version number taken) = notSent 0
+sending (placed place) = notSent 0 0
+sending ended = notSent 0 0
+sending (found a) = notSent 0 0
+sending (keysStored taken) = notSent 0 0
+sending (delivery endpoint dtls taken) = notSent 0 0
+sending (removed taken) = notSent 0 0
+sending (version number taken) = notSent 0 0
 
 -- the output afterwards: what was written at its front, and the octets behind as they were; or every octet as it was
 abbrev pub outputBy : Answer → List ℕ → List ℕ
@@ -69,16 +70,16 @@ outputBy (version number taken) out = out
 abbrev pub Sends : Answer → (before after : List ℕ) → Sent → Type 0
 Sends a before after r = (sendingOf r ≡ sending a) × (after ≡ outputBy a before)
 
--- ---- Tunnel octets; refusal 5 has a case of its own, so that number with the other stands for what is no answer of this call
+-- ---- Tunnel octets; refusal 5 has a case of its own, and the other case of a refusal stands for no answer with that number
 
-abbrev pub receivedOf : Received → Answer
-receivedOf (Received.Refused number taken) = cond (eqb number 5) ended (refused number taken)
-receivedOf (Received.BadBody taken) = refused 5 taken
-receivedOf Received.MoreNeeded = moreNeeded
-receivedOf (Received.KeysStored taken) = keysStored taken
-receivedOf (Received.Delivery endpoint dtls taken) = delivery endpoint dtls taken
-receivedOf (Received.Disconnected taken) = removed taken
-receivedOf (Received.Version number taken) = version number taken
+abbrev pub receivedOf : Received → Option Answer
+receivedOf (Received.Refused number taken) = cond (eqb number 5) none (some (refused number taken))
+receivedOf (Received.BadBody taken) = some (refused 5 taken)
+receivedOf Received.MoreNeeded = some moreNeeded
+receivedOf (Received.KeysStored taken) = some (keysStored taken)
+receivedOf (Received.Delivery endpoint dtls taken) = some (delivery endpoint dtls taken)
+receivedOf (Received.Disconnected taken) = some (removed taken)
+receivedOf (Received.Version number taken) = some (version number taken)
 
 -- the octets of a whole SupportedProfiles, which is refusal 4; 0 where the octets hold none
 abbrev pub profilesIn : Frame.Framing → ℕ

@@ -23,6 +23,7 @@ use octets::Bounds;
 use octets::refusal;
 use rows::endpoint_of;
 ghost use mathlib.Core.Path.{_≡_};
+ghost use mathlib.Core.Option.{some};
 ghost use lib.ListN.{length};
 ghost use Rattle.rules.specs.Layout as Layout;
 ghost use Rattle.message.specs.Frame as Framing;
@@ -110,7 +111,7 @@ fn take_keys(
     taken: usize,
 ) -> Received
     requires { ⌜ length (now state) ≡ Layout.blockLength ⌝ }
-    ensures { λ r. ⌜ (Out.receivedOf r ≡ Spec.fieldsAnswer (now (state .entry)) (now (s .entry)) (Fields.MediaKeys profile lengths) taken) × (now (state .exit) ≡ Spec.fieldsNext (now (state .entry)) (now (s .entry)) (Fields.MediaKeys profile lengths)) ⌝ }
+    ensures { λ r. ⌜ (Out.receivedOf r ≡ some (Spec.fieldsAnswer (now (state .entry)) (now (s .entry)) (Fields.MediaKeys profile lengths) taken)) × (now (state .exit) ≡ Spec.fieldsNext (now (state .entry)) (now (s .entry)) (Fields.MediaKeys profile lengths)) ⌝ }
 {
     let identifier = octets::part(s, HEADER, HEADER + WIDTH);
     match check_keys(state, identifier, profile, lengths) {
@@ -125,7 +126,7 @@ fn take_keys(
 // TunneledDtls: the octets and their endpoint.
 fn deliver(state: &[u8], s: &[u8], dtls_length: u16, taken: usize) -> Received
     requires { ⌜ length (now state) ≡ Layout.blockLength ⌝ }
-    ensures { λ r. ⌜ Out.receivedOf r ≡ Spec.fieldsAnswer (now (state .entry)) (now (s .entry)) (Fields.TunneledDtls «dtls_length») taken ⌝ }
+    ensures { λ r. ⌜ Out.receivedOf r ≡ some (Spec.fieldsAnswer (now (state .entry)) (now (s .entry)) (Fields.TunneledDtls «dtls_length») taken) ⌝ }
 {
     let identifier = octets::part(s, HEADER, HEADER + WIDTH);
     let place = place_of_identifier(state, identifier);
@@ -149,7 +150,7 @@ fn deliver(state: &[u8], s: &[u8], dtls_length: u16, taken: usize) -> Received
 // EndpointDisconnect: the record is removed.
 fn disconnect(state: &mut [u8], s: &[u8], taken: usize) -> Received
     requires { ⌜ length (now state) ≡ Layout.blockLength ⌝ }
-    ensures { λ r. ⌜ (Out.receivedOf r ≡ Spec.fieldsAnswer (now (state .entry)) (now (s .entry)) Fields.EndpointDisconnect taken) × (now (state .exit) ≡ Spec.fieldsNext (now (state .entry)) (now (s .entry)) Fields.EndpointDisconnect) ⌝ }
+    ensures { λ r. ⌜ (Out.receivedOf r ≡ some (Spec.fieldsAnswer (now (state .entry)) (now (s .entry)) Fields.EndpointDisconnect taken)) × (now (state .exit) ≡ Spec.fieldsNext (now (state .entry)) (now (s .entry)) Fields.EndpointDisconnect) ⌝ }
 {
     let identifier = octets::part(s, HEADER, HEADER + WIDTH);
     let place = place_of_identifier(state, identifier);
@@ -166,7 +167,7 @@ fn disconnect(state: &mut [u8], s: &[u8], taken: usize) -> Received
 
 fn take_fields(state: &mut [u8], s: &[u8], fields: Fields, taken: usize) -> Received
     requires { ⌜ length (now state) ≡ Layout.blockLength ⌝ }
-    ensures { λ r. ⌜ (Out.receivedOf r ≡ Spec.fieldsAnswer (now (state .entry)) (now (s .entry)) fields taken) × (now (state .exit) ≡ Spec.fieldsNext (now (state .entry)) (now (s .entry)) fields) ⌝ }
+    ensures { λ r. ⌜ (Out.receivedOf r ≡ some (Spec.fieldsAnswer (now (state .entry)) (now (s .entry)) fields taken)) × (now (state .exit) ≡ Spec.fieldsNext (now (state .entry)) (now (s .entry)) fields) ⌝ }
 {
     match fields {
         Fields::SupportedProfiles {
@@ -189,7 +190,7 @@ fn take_fields(state: &mut [u8], s: &[u8], fields: Fields, taken: usize) -> Rece
 // A whole message that is no SupportedProfiles, by its body.
 fn take_body(state: &mut [u8], s: &[u8], kind: Kind, body_length: u16) -> Received
     requires { ⌜ length (now state) ≡ Layout.blockLength ⌝ }
-    ensures { λ r. ⌜ (Out.receivedOf r ≡ Spec.readAnswer (now (state .entry)) (now (s .entry)) (frameAnswer (now (s .entry)) (Framing.whole kind «body_length»))) × (now (state .exit) ≡ Spec.readNext (now (state .entry)) (now (s .entry)) (frameAnswer (now (s .entry)) (Framing.whole kind «body_length»))) ⌝ }
+    ensures { λ r. ⌜ (Out.receivedOf r ≡ some (Spec.readAnswer (now (state .entry)) (now (s .entry)) (frameAnswer (now (s .entry)) (Framing.whole kind «body_length»)))) × (now (state .exit) ≡ Spec.readNext (now (state .entry)) (now (s .entry)) (frameAnswer (now (s .entry)) (Framing.whole kind «body_length»))) ⌝ }
 {
     let taken = HEADER + body_length as usize;
     match message::read_body(kind, octets::part(s, HEADER, taken)) {
@@ -205,7 +206,7 @@ fn take_body(state: &mut [u8], s: &[u8], kind: Kind, body_length: u16) -> Receiv
 // A whole message: refusal 4 comes before its body.
 fn take_whole(state: &mut [u8], s: &[u8], kind: Kind, body_length: u16) -> Received
     requires { ⌜ length (now state) ≡ Layout.blockLength ⌝ }
-    ensures { λ r. ⌜ (Out.receivedOf r ≡ Spec.readAnswer (now (state .entry)) (now (s .entry)) (received (now (s .entry)) (Framing.whole kind «body_length»))) × (now (state .exit) ≡ Spec.readNext (now (state .entry)) (now (s .entry)) (received (now (s .entry)) (Framing.whole kind «body_length»))) ⌝ }
+    ensures { λ r. ⌜ (Out.receivedOf r ≡ some (Spec.readAnswer (now (state .entry)) (now (s .entry)) (received (now (s .entry)) (Framing.whole kind «body_length»)))) × (now (state .exit) ≡ Spec.readNext (now (state .entry)) (now (s .entry)) (received (now (s .entry)) (Framing.whole kind «body_length»))) ⌝ }
 {
     let profiles = profiles_of(kind, body_length);
     if profiles != 0 {
@@ -220,7 +221,7 @@ fn take_whole(state: &mut [u8], s: &[u8], kind: Kind, body_length: u16) -> Recei
 // What the front of the octets holds, with the tunnel up: the long way.
 fn take_any(state: &mut [u8], s: &[u8]) -> Received
     requires { ⌜ length (now state) ≡ Layout.blockLength ⌝ }
-    ensures { λ r. ⌜ (Out.receivedOf r ≡ Spec.readAnswer (now (state .entry)) (now (s .entry)) (receiving (now (s .entry)))) × (now (state .exit) ≡ Spec.readNext (now (state .entry)) (now (s .entry)) (receiving (now (s .entry)))) ⌝ }
+    ensures { λ r. ⌜ (Out.receivedOf r ≡ some (Spec.readAnswer (now (state .entry)) (now (s .entry)) (receiving (now (s .entry))))) × (now (state .exit) ≡ Spec.readNext (now (state .entry)) (now (s .entry)) (receiving (now (s .entry)))) ⌝ }
 {
     match message::read_frame(s) {
         Frame::MoreNeeded => Received::MoreNeeded,
@@ -246,7 +247,7 @@ fn take_any(state: &mut [u8], s: &[u8]) -> Received
 // A whole TunneledDtls takes the short way: it is what comes most.
 fn take_frame(state: &mut [u8], s: &[u8]) -> Received
     requires { ⌜ length (now state) ≡ Layout.blockLength ⌝ }
-    ensures { λ r. ⌜ (Out.receivedOf r ≡ Spec.readAnswer (now (state .entry)) (now (s .entry)) (receiving (now (s .entry)))) × (now (state .exit) ≡ Spec.readNext (now (state .entry)) (now (s .entry)) (receiving (now (s .entry)))) ⌝ }
+    ensures { λ r. ⌜ (Out.receivedOf r ≡ some (Spec.readAnswer (now (state .entry)) (now (s .entry)) (receiving (now (s .entry))))) × (now (state .exit) ≡ Spec.readNext (now (state .entry)) (now (s .entry)) (receiving (now (s .entry)))) ⌝ }
 {
     let dtls_length = whole_dtls(s);
     if dtls_length != 0 {
@@ -258,7 +259,7 @@ fn take_frame(state: &mut [u8], s: &[u8]) -> Received
 
 fn octets_in(state: &mut [u8], s: &[u8]) -> Received
     requires { ⌜ length (now state) ≡ Layout.blockLength ⌝ }
-    ensures { λ r. ⌜ (Out.receivedOf r ≡ Spec.octetsAnswer (now (state .entry)) (now (s .entry))) × (now (state .exit) ≡ Spec.octetsNext (now (state .entry)) (now (s .entry))) ⌝ }
+    ensures { λ r. ⌜ (Out.receivedOf r ≡ some (Spec.octetsAnswer (now (state .entry)) (now (s .entry)))) × (now (state .exit) ≡ Spec.octetsNext (now (state .entry)) (now (s .entry))) ⌝ }
 {
     if is_up(state) {
         take_frame(state, s)
@@ -272,7 +273,7 @@ fn octets_in(state: &mut [u8], s: &[u8]) -> Received
 
 // Octets from the key distributor: 1, then the reading; type 3: 6, 7, 8, 9; types 4 and 5: 6.
 pub fn tunnel_octets(state: &mut [u8; BLOCK], s: &[u8]) -> Received
-    ensures { λ r. ⌜ (Out.receivedOf r ≡ Spec.octetsAnswer (now (state .entry)) (now (s .entry))) × (now (state .exit) ≡ Spec.octetsNext (now (state .entry)) (now (s .entry))) ⌝ }
+    ensures { λ r. ⌜ (Out.receivedOf r ≡ some (Spec.octetsAnswer (now (state .entry)) (now (s .entry)))) × (now (state .exit) ≡ Spec.octetsNext (now (state .entry)) (now (s .entry))) ⌝ }
 {
     octets_in(state, s)
 }

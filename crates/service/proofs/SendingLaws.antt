@@ -22,10 +22,10 @@ use Rattle.service.proofs.PieceLaws.{from-front}
 sent-is : {a b : ℕ} → sent a ≡ sent b → a ≡ b
 sent-is e = cc
 
-not-sent-is : {a b : ℕ} → notSent a ≡ notSent b → a ≡ b
+not-sent-is : {a b m n : ℕ} → notSent a m ≡ notSent b n → a ≡ b
 not-sent-is e = cc
 
-sent-not : {a b : ℕ} → sent a ≡ notSent b → ⊥
+sent-not : {a b n : ℕ} → sent a ≡ notSent b n → ⊥
 sent-not e = let z : _≡_ {A = ℕ} 0 1 = cc in omega arith
 
 -- what is lent of an output, and the output with what came back

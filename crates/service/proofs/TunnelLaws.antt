@@ -3,6 +3,7 @@ use Prim.Native.Nat.{ℕ, _+_, _-_, _≤_}
 use mathlib.Core.Path.{_≡_, refl, sym, subst}
 use mathlib.Core.Bool.{Bool, true, false, cond}
 use mathlib.Core.List.{List, _∷_, _++_}
+use mathlib.Core.Option.{Option, some, none, Option·some-injective, Option·none-ne-some}
 use native.Mathlib.Omega.{arith}
 use lib.Dec.{eqb}
 use lib.ListN.{length, drop, length-take, length-drop}
@@ -65,12 +66,15 @@ module _ (s octets : List ℕ) where
   of-octets = by-choice OfTunnel (up s) (readAnswer s octets (receiving octets)) (refused 1 0) (λ h. of-reading (receiving octets)) (λ h. tt)
 
   -- a refusal is one
-  not-ended : (b : Bool) (a : Answer) → cond b ended a ≡ octetsAnswer s octets → a ≡ octetsAnswer s octets
-  not-ended true a e = absurd (subst OfTunnel (sym e) of-octets)
-  not-ended false a e = e
+  not-none : (b : Bool) (a : Answer) → cond b none (some a) ≡ some (octetsAnswer s octets) → a ≡ octetsAnswer s octets
+  not-none true a e = absurd (Option·none-ne-some (octetsAnswer s octets) e)
+  not-none false a e = Option·some-injective a (octetsAnswer s octets) e
 
-  pub refused-received : (number taken : ℕ) → receivedOf (Received.Refused number taken) ≡ octetsAnswer s octets → refused number taken ≡ octetsAnswer s octets
-  refused-received number taken e = not-ended (eqb number 5) (refused number taken) e
+  pub refused-received : (number taken : ℕ) → receivedOf (Received.Refused number taken) ≡ some (octetsAnswer s octets) → refused number taken ≡ octetsAnswer s octets
+  refused-received number taken e = not-none (eqb number 5) (refused number taken) e
+
+  pub received : (a : Answer) → some a ≡ some (octetsAnswer s octets) → a ≡ octetsAnswer s octets
+  received a e = Option·some-injective a (octetsAnswer s octets) e
 
   -- a delivery's octets fit behind the head, the octets taken and the endpoint
   pub delivery-fits : (endpoint : ℕ) (dtls : Bounds) (taken : ℕ) → delivery endpoint dtls taken ≡ octetsAnswer s octets → length octets ≤ room
