@@ -8,6 +8,8 @@ use lib.ListN.{length, drop}
 use lib.Dec.{eqb}
 use Rattle.rules.specs.Verdict.{Verdict, allowed, refusal}
 use Rattle.rules.specs.Refusals.{ofProfiles}
+use Rattle.rules.specs.Call.{Call}
+use Rattle.rules.specs.Table.{answer, step}
 use Rattle.rules.specs.Answer as Answer
 use Rattle.rules.specs.Answer.{Answer, refused, moreNeeded, wrote, placed, ended, found, keysStored, delivery, removed, version}
 use Rattle.distributor.specs.declared.check.Check.{Check}
@@ -17,6 +19,10 @@ use Rattle.distributor.specs.declared.sending.Sent.{Sent}
 use Rattle.distributor.specs.declared.receiving.Received.{Received}
 use Rattle.message.specs.Frame as Frame
 use Rattle.message.specs.Limits.{header}
+
+-- a call does what the rules say: what it returns and writes tells the answer, and the block is left as the step leaves it
+abbrev pub Does : Call → (before after : List ℕ) → (Tells : Answer → Type 0) → Type 0
+Does c before after Tells = Tells (answer before c) × (after ≡ step before c)
 
 -- a verdict, with the place that an allowed call is about: an association's, or the vacant one that an opening takes
 abbrev pub checked : Verdict → (place : ℕ) → Check

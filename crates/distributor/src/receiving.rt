@@ -25,6 +25,7 @@ use rows::endpoint_of;
 ghost use mathlib.Core.Path.{_≡_};
 ghost use mathlib.Core.Option.{some};
 ghost use lib.ListN.{length};
+ghost use Rattle.rules.specs.Call as Call;
 ghost use Rattle.rules.specs.Layout as Layout;
 ghost use Rattle.message.specs.Frame as Framing;
 ghost use Rattle.message.specs.Read.{frameAnswer};
@@ -257,9 +258,9 @@ fn take_frame(state: &mut [u8], s: &[u8]) -> Received
     take_any(state, s)
 }
 
-fn octets_in(state: &mut [u8], s: &[u8]) -> Received
-    requires { ⌜ length (now state) ≡ Layout.blockLength ⌝ }
-    ensures { λ r. ⌜ (Out.receivedOf r ≡ some (Spec.octetsAnswer (now (state .entry)) (now (s .entry)))) × (now (state .exit) ≡ Spec.octetsNext (now (state .entry)) (now (s .entry))) ⌝ }
+// Octets from the key distributor: 1, then the reading; type 3: 6, 7, 8, 9; types 4 and 5: 6.
+pub fn tunnel_octets(state: &mut [u8; BLOCK], s: &[u8]) -> Received
+    ensures { λ r. ⌜ Out.Does (Call.tunnelOctets (now (s .entry))) (now (state .entry)) (now (state .exit)) (λ a. Out.receivedOf r ≡ some a) ⌝ }
 {
     if is_up(state) {
         take_frame(state, s)
@@ -269,11 +270,4 @@ fn octets_in(state: &mut [u8], s: &[u8]) -> Received
             taken: 0,
         }
     }
-}
-
-// Octets from the key distributor: 1, then the reading; type 3: 6, 7, 8, 9; types 4 and 5: 6.
-pub fn tunnel_octets(state: &mut [u8; BLOCK], s: &[u8]) -> Received
-    ensures { λ r. ⌜ (Out.receivedOf r ≡ some (Spec.octetsAnswer (now (state .entry)) (now (s .entry)))) × (now (state .exit) ≡ Spec.octetsNext (now (state .entry)) (now (s .entry))) ⌝ }
-{
-    octets_in(state, s)
 }

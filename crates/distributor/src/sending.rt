@@ -21,6 +21,7 @@ ghost use Prim.Native.Nat.{_+_};
 ghost use lib.Dec.{ltb};
 ghost use lib.ListN.{length};
 ghost use Rattle.message.specs.Limits.{header, width};
+ghost use Rattle.rules.specs.Call as Call;
 ghost use Rattle.rules.specs.Layout.{blockLength};
 ghost use Rattle.rules.specs.Refusals.{notDtls, tooLong};
 ghost use Rattle.rules.specs.Table as Spec;
@@ -95,13 +96,14 @@ fn check_packet(state: &[u8], endpoint: u32, packet: &[u8], room: usize) -> Chec
     Check::Allowed { place }
 }
 
-fn packet_in(state: &[u8], endpoint: u32, packet: &[u8], out: &mut [u8]) -> Sent
-    requires { ⌜ length (now state) ≡ blockLength ⌝ }
-    ensures { λ r. ⌜ Sends (Spec.packetAnswer (now (state .entry)) endpoint (now (packet .entry)) (length (now (out .entry)))) (now (out .entry)) (now (out .exit)) r ⌝ }
+// Writes TunneledDtls for an endpoint's association; refusals 1, 6, 14, 15, 13. The block is lent to be read.
+pub fn booth_packet(state: &[u8; BLOCK], endpoint: u32, packet: &[u8], out: &mut [u8]) -> Sent
+    ensures { λ r. ⌜ Sends (Spec.answer (now (state .entry)) (Call.boothPacket endpoint (now (packet .entry)) (length (now (out .entry))))) (now (out .entry)) (now (out .exit)) r ⌝ }
 {
-    match check_packet(state, endpoint, packet, out.len()) {
+    let s: &[u8] = state;
+    match check_packet(s, endpoint, packet, out.len()) {
         Check::Allowed { place } => {
-            let identifier = array16(row_at(state, place), IDENTIFIER);
+            let identifier = array16(row_at(s, place), IDENTIFIER);
             message::write_tunneled_dtls(&identifier, packet, out);
             Sent::Written {
                 count: HEADER + WIDTH + 2 + packet.len(),
@@ -109,12 +111,4 @@ fn packet_in(state: &[u8], endpoint: u32, packet: &[u8], out: &mut [u8]) -> Sent
         }
         Check::Refused { number } => Sent::Refused { number },
     }
-}
-
-// Writes TunneledDtls for an endpoint's association; refusals 1, 6, 14, 15, 13.
-pub fn booth_packet(state: &[u8; BLOCK], endpoint: u32, packet: &[u8], out: &mut [u8]) -> Sent
-    ensures { λ r. ⌜ Sends (Spec.packetAnswer (now (state .entry)) endpoint (now (packet .entry)) (length (now (out .entry)))) (now (out .entry)) (now (out .exit)) r ⌝ }
-{
-    let s: &[u8] = state;
-    packet_in(s, endpoint, packet, out)
 }

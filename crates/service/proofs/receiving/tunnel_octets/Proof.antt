@@ -10,6 +10,7 @@ use Rattle.service.proofs.receiving.tunnel_octets.Statement.{statement}
 use Rattle.service.proofs.receiving.tunnel_octets.Tie as tie
 
 delivery-requires : tie.Need-delivery-requires
+unfolding answer
 delivery-requires c κs =
     let a = c .before .before .before .before .before .before .before .before .args in
     let e = received (now (a .state)) (now (a .body)) _ (sym (ap receivedOf (c .before .before .before .endpoint .given .1)) ∙ c .before .before .before .before .before .tunnel-octets .ensures .0) in
