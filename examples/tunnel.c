@@ -13,7 +13,6 @@ static void show(const char *name, struct shawm_part part)
     printf("\n");
 }
 
-/* [quoted in README.md] */
 /* Handles one message of the key distributor. */
 static void handle(const struct shawm_message *m)
 {
@@ -56,7 +55,6 @@ static size_t receive(const uint8_t *octets, size_t n)
     }
     return done;
 }
-/* [end] */
 
 /* What comes from the tunnel. */
 static const uint8_t stream[] = {
