@@ -77,7 +77,7 @@ extern "C" {
  * function's comment says which is given. */
 enum shawm_refusal {
     SHAWM_TUNNEL_DOWN = 1,          /* the tunnel is down */
-    SHAWM_OVERSIZE = 2,             /* body over SHAWM_BODY_LIMIT, read or to be written */
+    SHAWM_OVERSIZE = 2,             /* body over SHAWM_BODY_LIMIT, type not 2, read or to be written */
     SHAWM_UNLISTED_TYPE = 3,        /* message type 0 or 6 to 255 */
     SHAWM_WRONG_DIRECTION = 4,      /* SupportedProfiles from the key distributor */
     SHAWM_BAD_BODY = 5,             /* body read, or fields to be written, do not match the layout */
@@ -136,15 +136,21 @@ enum shawm_type {
 
 /* Reads one message at the front of n octets from the tunnel. Octets behind it are
  * not looked at. Answers SHAWM_MORE_NEEDED, the type of the accepted message (enum
- * shawm_type), or a refusal:
- *   SHAWM_OVERSIZE        the announced body is over SHAWM_BODY_LIMIT; none taken.
- *                         No boundary can be found again: close the tunnel.
- *   SHAWM_UNLISTED_TYPE   a whole message of a type that RFC 9185 does not list
- *   SHAWM_BAD_BODY        a whole message whose body does not match its type
+ * shawm_type), or a refusal, by the first of these that holds:
+ *   fewer than three octets         SHAWM_MORE_NEEDED
+ *   type 2 with length 0            refused: SHAWM_BAD_BODY; three octets taken
+ *   type 2, fewer than four octets  SHAWM_MORE_NEEDED
+ *   type 2                          SHAWM_UNSUPPORTED_VERSION, whatever its length
+ *                                   says; every octet that was lent is taken
+ *   length over SHAWM_BODY_LIMIT    refused: SHAWM_OVERSIZE; none taken
+ *   not all of it there yet         SHAWM_MORE_NEEDED
+ *   type 0 or 6 to 255              refused: SHAWM_UNLISTED_TYPE; all of it taken
+ *   a body that is not of its type  refused: SHAWM_BAD_BODY; all of it taken
+ *   none of these                   its type; all of it taken
  *
- * UnsupportedVersion is accepted from its first four octets, whatever length it
- * announces (RFC 9185, section 5.5), and takes every octet that was lent; with an
- * announced length of 0 it is refused with SHAWM_BAD_BODY. */
+ * Close the connection after SHAWM_OVERSIZE, as no boundary can be found again, and
+ * after SHAWM_UNSUPPORTED_VERSION, as what follows is to be discarded (RFC 9185,
+ * section 5.5). After any other answer reading goes on. */
 uint32_t shawm_read(const uint8_t *octets, size_t n);
 
 /* How many octets that same reading takes: drop so many from the front before
