@@ -6,6 +6,7 @@ pub mod Call
 pub mod Layout
 pub mod Halving
 pub mod Order
+pub mod Orders
 pub mod Index
 pub mod Verdict
 pub mod Answer

@@ -18,7 +18,8 @@ use Rattle.rules.specs.Search as Search
 use Rattle.rules.specs.Keys.{Keys, keysIn}
 use Rattle.rules.specs.Tunnel.{down, upWith, isUp, listIn}
 use Rattle.rules.specs.Call as Call
-use Rattle.rules.specs.Verdict.{Verdict, allowed, refuse, after}
+use Rattle.rules.specs.Verdict.{Verdict, after}
+use Rattle.rules.specs.Orders.{startOrder, openOrder, packetOrder, keysOrder, closeOrder, lookOrder}
 use Rattle.rules.specs.Answer as Answer
 use Rattle.rules.specs.Answer.{Association, Answer, refused, moreNeeded, wrote, placed, ended, found, keysStored, delivery, removed, version, answered}
 use Rattle.rules.specs.Refusals.{wrongWidth, noRoom, notDtls, tooLong, startMessage, receiving}
@@ -65,32 +66,27 @@ isDown v = not (isUp (v .tunnel))
 -- ---- the calls
 
 unfoldable pub startVerdict : View → List ℕ → (room : ℕ) → Verdict
-startVerdict v list room = refuse (isUp (v .tunnel)) 17 (refuse (not (goodList list)) 16 (refuse (noRoom (startMessage list) room) 13 allowed))
+startVerdict v list room = startOrder (isUp (v .tunnel)) (not (goodList list)) (noRoom (startMessage list) room)
 
 unfoldable pub openVerdict : View → List ℕ → ℕ → Verdict
-openVerdict v i e =
-    refuse (isDown v) 1 (refuse (wrongWidth i) 20 (refuse (has (isFor i) v) 11 (refuse (has (isServing e) v) 12 (refuse (not (has isVacant v)) 10 allowed))))
+openVerdict v i e = openOrder (isDown v) (wrongWidth i) (has (isFor i) v) (has (isServing e) v) (not (has isVacant v))
 
 abbrev pub packetMessage : View → ℕ → List ℕ → Message
 packetMessage v e packet = tunneledDtls (identifierIn (firstWith (isServing e) v)) packet
 
 unfoldable pub packetVerdict : View → ℕ → List ℕ → (room : ℕ) → Verdict
 packetVerdict v e packet room =
-    refuse (isDown v) 1 (refuse (not (has (isServing e) v)) 6 (refuse (notDtls packet) 14 (refuse (tooLong packet) 15 (refuse (noRoom (packetMessage v e packet) room) 13 allowed))))
+    packetOrder (isDown v) (not (has (isServing e) v)) (notDtls packet) (tooLong packet) (noRoom (packetMessage v e packet) room)
 
 unfoldable pub closeVerdict : View → List ℕ → (room : ℕ) → Verdict
-closeVerdict v i room =
-    refuse (isDown v) 1 (refuse (wrongWidth i) 20 (refuse (not (has (isFor i) v)) 6 (refuse (noRoom (endpointDisconnect i) room) 13 allowed)))
+closeVerdict v i room = closeOrder (isDown v) (wrongWidth i) (not (has (isFor i) v)) (noRoom (endpointDisconnect i) room)
 
 unfoldable pub lookVerdict : View → ℕ → Verdict
-lookVerdict v e = refuse (isDown v) 1 (refuse (not (has (isServing e) v)) 6 allowed)
+lookVerdict v e = lookOrder (isDown v) (not (has (isServing e) v))
 
 unfoldable pub keysVerdict : View → List ℕ → (profile : ℕ) → KeyLengths → Verdict
 keysVerdict v i profile k =
-    refuse (not (has (isFor i) v)) 6
-    (refuse (not (inList profile (listIn (v .tunnel)))) 7
-    (refuse (not (keysFit profile k)) 8
-    (refuse (not (mkiAndSaltsFit k)) 9 allowed)))
+    keysOrder (not (has (isFor i) v)) (not (inList profile (listIn (v .tunnel)))) (not (keysFit profile k)) (not (mkiAndSaltsFit k))
 
 unfoldable pub fieldsAnswer : View → List ℕ → Fields → (taken : ℕ) → Answer
 fieldsAnswer v octets (SupportedProfiles x n) taken = refused 4 taken
