@@ -14,6 +14,7 @@ pub mod Table
 pub mod View
 pub mod Cards
 pub mod CardAnswers
+pub mod Placed
 pub mod Claim
 pub mod ViewSteps
 pub mod Lookup
