@@ -1,4 +1,4 @@
--- A refused call changes nothing, but refusal 2, which only Tunnel octets gives: it ends the tunnel and empties the table.
+-- A refused call changes nothing, but refusal 2, which only Tunnel octets gives: it ends the tunnel and empties the table. Nor does "more needed" change anything.
 use Prim.Native.Nat.{ℕ}
 use mathlib.Core.Path.{_≡_, refl, sym, ap, _∙_}
 use mathlib.Core.Bool.{Bool, true, false, cond, not}
@@ -19,12 +19,13 @@ use Rattle.rules.specs.Answer.{Answer, refused, moreNeeded, wrote, place
 use Rattle.rules.specs.Refusals.{wrongWidth, noRoom, notDtls, tooLong, startMessage, receiving}
 use Rattle.rules.specs.Table as Table
 use Rattle.rules.specs.Table.{answer, step, knows, serves, hasRoom, without, packetMessage}
+use Rattle.rules.specs.Unchanged.{RefusedKeeps, MoreNeededKeeps}
 use Rattle.rules.proofs.VerdictLaws.{Avoids, avoids, keys-avoid}
 
--- the block after a call, by its answer: of a refusal it is settled
+-- the block after a call, by its answer: of a refusal and of "more needed" it is settled
 abbrev leaves : Answer → (old new : List ℕ) → List ℕ
 leaves (refused number taken) old new = cond (eqb number 2) downBlock old
-leaves moreNeeded old new = new
+leaves moreNeeded old new = old
 leaves (wrote octets) old new = new
 leaves (placed place) old new = new
 leaves ended old new = new
@@ -115,5 +116,8 @@ module _ (s : List ℕ) where
   left Call.end = by-end (up s)
   left (Call.look e) = by-reading (Table.lookVerdict s e) (look-avoids e) (found (Table.associationOf (rowOf s (Table.placeOfEndpoint s e)))) refl
 
-pub refused-keeps : (s : List ℕ) (c : Call.Call) (number taken : ℕ) → answer s c ≡ refused number taken → step s c ≡ cond (eqb number 2) downBlock s
+pub refused-keeps : (s : List ℕ) (c : Call.Call) → RefusedKeeps s c
 refused-keeps s c number taken e = sym (left s c) ∙ ap (λ (a : Answer). leaves a s (step s c)) e
+
+pub more-needed-keeps : (s : List ℕ) (c : Call.Call) → MoreNeededKeeps s c
+more-needed-keeps s c e = sym (left s c) ∙ ap (λ (a : Answer). leaves a s (step s c)) e

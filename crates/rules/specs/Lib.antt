@@ -11,6 +11,7 @@ pub mod Verdict
 pub mod Answer
 pub mod Refusals
 pub mod Table
+pub mod Unchanged
 pub mod View
 pub mod Cards
 pub mod CardAnswers
