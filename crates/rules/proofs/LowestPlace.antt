@@ -12,12 +12,12 @@ use lib.Seq.{getD-set-same, getD-set-other}
 use Rattle.octets.proofs.Tests.{false-true}
 use Rattle.rules.specs.Search.{first}
 use Rattle.rules.specs.Call.{Call, opening}
-use Rattle.rules.specs.Verdict.{Verdict, allowed, refusal, after}
+use Rattle.rules.specs.Verdict.{Verdict, allowed, refusal}
 use Rattle.rules.specs.Answer.{Association, opened, placed, answered}
 use Rattle.rules.specs.Refusals.{wrongWidth}
 use Rattle.rules.specs.Table.{step}
 use Rattle.rules.specs.View.{Slot, View, view, isFor}
-use Rattle.rules.specs.ViewSteps.{isVacant, isServing, has, withSlot, isDown, openVerdict, viewAnswer, viewStep}
+use Rattle.rules.specs.ViewSteps.{isVacant, isServing, has, isDown, openVerdict, viewAnswer, viewStep}
 use Rattle.rules.specs.Placed.{Placed, Opening, Openings}
 use Rattle.rules.proofs.Choices.{no-both, by-test}
 use Rattle.rules.proofs.SearchLaws.{first-passes}
@@ -64,17 +64,18 @@ stored table i e h = record {
   others = λ other k. getD-set-other table (first isVacant table) other (some (opened i e)) none k;
 }
 
+-- a call that is answered with a place was allowed, and this is the place
+given : (w : Verdict) (n place : ℕ) → answered w 0 (placed n) ≡ placed place → (w ≡ allowed) × (n ≡ place)
+given allowed n place h = (refl, cc)
+given (refusal number) n place h = absurd (let z : _≡_ {A = ℕ} 0 1 = cc in omega arith)
+
 open-placed : (v : View) (i : List ℕ) (e place : ℕ) → viewAnswer v (opening i e) ≡ placed place → Placed (v .table) (viewStep v (opening i e) .table) place i e
 unfolding viewAnswer viewStep
-open-placed v i e place = go (openVerdict v i e) refl
-  where
-    go : (w : Verdict) → openVerdict v i e ≡ w → answered w 0 (placed (first isVacant (v .table))) ≡ placed place
-        → Placed (v .table) (after w (withSlot isVacant (some (opened i e)) v) v .table) place i e
-    go allowed q h =
-        let at : first isVacant (v .table) ≡ place = cc in
-        subst (λ (n : ℕ). Placed (v .table) (set (v .table) (first isVacant (v .table)) (some (opened i e))) n i e) at
-        (stored (v .table) i e (first-lt isVacant (v .table) (open-room v i e q)))
-    go (refusal n) q h = absurd (let z : _≡_ {A = ℕ} 0 1 = cc in omega arith)
+open-placed v i e place h =
+    let g = given (openVerdict v i e) _ place h in
+    let at : first isVacant (v .table) ≡ place = g .1 in
+    let room = first-lt isVacant (v .table) (open-room v i e (g .0)) in
+    rw (g .0) (subst (λ (n : ℕ). Placed (v .table) (set (v .table) (first isVacant (v .table)) (some (opened i e))) n i e) at (stored (v .table) i e room))
 
 -- ---- along a list
 

@@ -12,8 +12,7 @@ use Rattle.message.specs.Read as Read
 use Rattle.message.specs.declared.bodies.Fields.{Fields}
 use Rattle.message.specs.declared.bodies.Fields.the-variants.{SupportedProfiles, UnsupportedVersion, MediaKeys, TunneledDtls, EndpointDisconnect}
 use Rattle.rules.specs.Call as Call
-use Rattle.rules.specs.Layout.{up, rowOf, endpointOf, openRow, withRow, downBlock, upBlock}
-use Rattle.rules.specs.Index.{withEntry}
+use Rattle.rules.specs.Layout.{up, rowOf, endpointOf, downBlock, upBlock}
 use Rattle.rules.specs.Verdict.{Verdict, allowed, refusal, after}
 use Rattle.rules.specs.Answer.{Answer, refused, moreNeeded, wrote, placed, ended, found, keysStored, delivery, removed, version, answered}
 use Rattle.rules.specs.Refusals.{wrongWidth, noRoom, notDtls, tooLong, startMessage, receiving}
@@ -109,7 +108,7 @@ module _ (s : List ℕ) where
   left : (c : Call.Call) → leaves (answer s c) s (step s c) ≡ step s c
   unfolding answer step Table.startAnswer Table.startNext Table.openAnswer Table.openNext Table.packetAnswer Table.closeAnswer Table.closeNext Table.endAnswer Table.endNext Table.lookAnswer Table.octetsAnswer Table.octetsNext
   left (Call.start list room) = by-verdict (Table.startVerdict s list room) (start-avoids list room) 0 (wrote (encode (startMessage list))) (upBlock list) refl
-  left (Call.opening i e) = by-verdict (Table.openVerdict s i e) (open-avoids i e) 0 (placed (Table.vacantPlace s)) (withEntry (withRow s (Table.vacantPlace s) (openRow i e)) e (Table.vacantPlace s)) refl
+  left (Call.opening i e) = by-verdict (Table.openVerdict s i e) (open-avoids i e) 0 (placed _) _ refl
   left (Call.boothPacket e packet room) = by-reading (Table.packetVerdict s e packet room) (packet-avoids e packet room) (wrote (encode (packetMessage s e packet))) refl
   left (Call.tunnelOctets octets) = by-octets (up s) octets (receiving octets)
   left (Call.close i room) = by-verdict (Table.closeVerdict s i room) (close-avoids i room) 0 (wrote (encode (endpointDisconnect i))) (without s i) refl
