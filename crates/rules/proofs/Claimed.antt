@@ -19,6 +19,7 @@ use Rattle.rules.proofs.AgreesSays.{agrees-cards}
 use Rattle.rules.proofs.AgreesSteps.{agrees-step}
 use Rattle.rules.proofs.AgreesAnswers.{agrees-answer}
 use Rattle.rules.proofs.AgreesHanded.{agrees-handed}
+use Rattle.rules.proofs.LowestPlace.{legal-openings}
 
 -- a block that is legal and as the cards say, seen through its view
 pub record Kept (s : List ℕ) (cards : Cards.Cards) : Type 0 where
@@ -73,4 +74,5 @@ claim calls = record {
   state = agrees-cards _ _ (kept-run calls downBlock Cards.first kept-first .agrees);
   deliveries = kept-handouts calls downBlock Cards.first kept-first;
   answered = kept-answers calls downBlock Cards.first kept-first;
+  openings = legal-openings calls downBlock legal-down;
 }

@@ -41,6 +41,7 @@ pub mod AgreesOctets
 pub mod AgreesSteps
 pub mod AgreesAnswers
 pub mod AgreesHanded
+pub mod LowestPlace
 pub mod Claimed
 pub mod KeysMean
 pub mod Refused

@@ -23,6 +23,7 @@ use Rattle.rules.specs.View.{Slot, View, view, isFor, identifierIn, endp
 use Rattle.rules.specs.Cards as Cards
 use Rattle.rules.specs.Cards.{Held, blank, opened, keyed, filled, live, fed}
 use Rattle.rules.specs.CardAnswers.{dues}
+use Rattle.rules.specs.Placed.{Openings}
 
 -- ---- a record and a card
 
@@ -150,3 +151,5 @@ pub record Claim (calls : List Call.Call) : Type 0 where
   pub deliveries : handouts downBlock calls ≡ handedDues Cards.first calls
   -- beyond document 01: every answer, place numbers apart, is the one that the cards give
   pub answered : map apart (answers downBlock calls) ≡ dues Cards.first calls
+  -- "takes the lowest free place, so a freed place is used again": for each opening in the list that is answered with a place, in the table that the calls before it led to
+  pub openings : Openings downBlock calls

@@ -12,9 +12,11 @@ pub mod Verdict
 pub mod Answer
 pub mod Refusals
 pub mod Table
+pub mod Unchanged
 pub mod View
 pub mod Cards
 pub mod CardAnswers
+pub mod Placed
 pub mod Claim
 pub mod ViewSteps
 pub mod Lookup
