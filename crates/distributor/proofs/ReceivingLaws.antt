@@ -24,7 +24,7 @@ use Rattle.rules.specs.Answer.{Answer, refused, keysStored, delivery, removed}
 use Rattle.rules.specs.Refusals.{received, receiving}
 use Rattle.distributor.specs.Outcomes.{profilesIn, receivedOf}
 use Rattle.distributor.specs.declared.receiving.Received.{Received}
-use Rattle.rules.specs.Table.{placeOfIdentifier, knows, keysVerdict, fieldsAnswer, fieldsNext, readAnswer, readNext, octetsAnswer, octetsNext}
+use Rattle.rules.specs.Table.{placeOfIdentifier, endpointFor, knows, keysVerdict, fieldsAnswer, fieldsNext, readAnswer, readNext, octetsAnswer, octetsNext}
 use Rattle.rules.proofs.VerdictLaws.{keys-avoid}
 
 -- ---- refusal 4 is the only one that is not the reading's
@@ -92,19 +92,24 @@ module _ (s octets : List ℕ) (taken place : ℕ) (p : place ≡ placeOfIdentif
   not-there : places ≤ place → knows s (partIn octets identifierPlace) ≡ false
   not-there h = ap (λ (n : ℕ). ltb n places) (sym p) ∙ le-ltb place places h
 
+  at-place : endpointOf (rowOf s place) ≡ endpointFor s (partIn octets identifierPlace)
+  at-place = ap (λ (x : ℕ). endpointOf (rowOf s x)) p
+
   pub delivered : (n endpoint : ℕ) → place < places → endpoint ≡ endpointOf (rowOf s place)
       → some (delivery endpoint (dtlsPlace n) taken) ≡ some (fieldsAnswer s octets (TunneledDtls n) taken)
   unfolding fieldsAnswer
   delivered n endpoint h e =
-      rw (there h) (ap (λ (x : ℕ). some (delivery x (dtlsPlace n) taken)) (e ∙ ap (λ (x : ℕ). endpointOf (rowOf s x)) p))
+      rw (there h) (ap (λ (x : ℕ). some (delivery x (dtlsPlace n) taken)) (e ∙ at-place))
 
   pub not-delivered : (n : ℕ) → places ≤ place → some (refused 6 taken) ≡ some (fieldsAnswer s octets (TunneledDtls n) taken)
   unfolding fieldsAnswer
   not-delivered n h = rw (not-there h)
 
-  pub disconnected : place < places → {next : List ℕ} → next ≡ withoutEntry (withRow s place vacantRow) (endpointOf (rowOf s place)) → Fielded s octets taken EndpointDisconnect (some (removed taken)) next
+  pub disconnected : (endpoint : ℕ) → place < places → endpoint ≡ endpointOf (rowOf s place)
+      → {next : List ℕ} → next ≡ withoutEntry (withRow s place vacantRow) (endpointOf (rowOf s place))
+      → Fielded s octets taken EndpointDisconnect (some (removed endpoint taken)) next
   unfolding fieldsAnswer fieldsNext
-  disconnected h e = (rw (there h), rw (there h) (e ∙ ap (λ (x : ℕ). withoutEntry (withRow s x vacantRow) (endpointOf (rowOf s x))) p))
+  disconnected endpoint h n e = (rw (there h) (ap (λ (x : ℕ). some (removed x taken)) (n ∙ at-place)), rw (there h) (e ∙ ap (λ (x : ℕ). withoutEntry (withRow s x vacantRow) (endpointOf (rowOf s x))) p))
 
   pub not-disconnected : places ≤ place → Fielded s octets taken EndpointDisconnect (some (refused 6 taken)) s
   unfolding fieldsAnswer fieldsNext
@@ -115,10 +120,12 @@ module _ (s octets : List ℕ) (taken place : ℕ) (p : place ≡ placeOfIdentif
 module _ (s octets : List ℕ) (taken profile : ℕ) (k : KeyLengths) where
   pub keyed : (place : ℕ) → place ≡ placeOfIdentifier s (partIn octets identifierPlace)
       → allowed ≡ keysVerdict s (partIn octets identifierPlace) profile k
+      → (endpoint : ℕ) → endpoint ≡ endpointOf (rowOf s place)
       → {next : List ℕ} → next ≡ withRow s place (keyedRow (keysIn octets profile k) (rowOf s place))
-      → Fielded s octets taken (MediaKeys profile k) (some (keysStored taken)) next
+      → Fielded s octets taken (MediaKeys profile k) (some (keysStored endpoint taken)) next
   unfolding fieldsAnswer fieldsNext
-  keyed place p v e = rw (← v) (refl, e ∙ ap (λ (x : ℕ). withRow s x (keyedRow (keysIn octets profile k) (rowOf s x))) p)
+  keyed place p v endpoint n e =
+      rw (← v) (ap (λ (x : ℕ). some (keysStored x taken)) (n ∙ ap (λ (x : ℕ). endpointOf (rowOf s x)) p), e ∙ ap (λ (x : ℕ). withRow s x (keyedRow (keysIn octets profile k) (rowOf s x))) p)
 
   pub not-keyed : (number : ℕ) → refusal number ≡ keysVerdict s (partIn octets identifierPlace) profile k
       → Fielded s octets taken (MediaKeys profile k) (receivedOf (Received.Refused number taken)) s

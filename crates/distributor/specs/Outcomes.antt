@@ -55,9 +55,9 @@ sending (wrote octets) = sent (length octets)
 sending (placed place) = notSent 0 0
 sending ended = notSent 0 0
 sending (found a) = notSent 0 0
-sending (keysStored taken) = notSent 0 0
+sending (keysStored endpoint taken) = notSent 0 0
 sending (delivery endpoint dtls taken) = notSent 0 0
-sending (removed taken) = notSent 0 0
+sending (removed endpoint taken) = notSent 0 0
 sending (version number taken) = notSent 0 0
 
 -- the output afterwards: what was written at its front, and the octets behind as they were; or every octet as it was
@@ -68,9 +68,9 @@ outputBy (wrote octets) out = octets ++ drop (length octets) out
 outputBy (placed place) out = out
 outputBy ended out = out
 outputBy (found a) out = out
-outputBy (keysStored taken) out = out
+outputBy (keysStored endpoint taken) out = out
 outputBy (delivery endpoint dtls taken) out = out
-outputBy (removed taken) out = out
+outputBy (removed endpoint taken) out = out
 outputBy (version number taken) out = out
 
 abbrev pub Sends : Answer → (before after : List ℕ) → Sent → Type 0
@@ -82,9 +82,9 @@ abbrev pub receivedOf : Received → Option Answer
 receivedOf (Received.Refused number taken) = cond (eqb number 5) none (some (refused number taken))
 receivedOf (Received.BadBody taken) = some (refused 5 taken)
 receivedOf Received.MoreNeeded = some moreNeeded
-receivedOf (Received.KeysStored taken) = some (keysStored taken)
+receivedOf (Received.KeysStored endpoint taken) = some (keysStored endpoint taken)
 receivedOf (Received.Delivery endpoint dtls taken) = some (delivery endpoint dtls taken)
-receivedOf (Received.Disconnected taken) = some (removed taken)
+receivedOf (Received.Disconnected endpoint taken) = some (removed endpoint taken)
 receivedOf (Received.Version number taken) = some (version number taken)
 
 -- the octets of a whole SupportedProfiles, which is refusal 4; 0 where the octets hold none

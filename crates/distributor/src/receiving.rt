@@ -43,7 +43,9 @@ pub enum Received {
         taken: usize,
     },
     MoreNeeded,
+    // The endpoint of the association that the message names, here and below.
     KeysStored {
+        endpoint: u32,
         taken: usize,
     },
     // DTLS octets for an endpoint: where they stand in the lent octets.
@@ -53,6 +55,7 @@ pub enum Received {
         taken: usize,
     },
     Disconnected {
+        endpoint: u32,
         taken: usize,
     },
     Version {
@@ -117,8 +120,9 @@ fn take_keys(
     let identifier = octets::part(s, HEADER, HEADER + WIDTH);
     match check_keys(state, identifier, profile, lengths) {
         Check::Allowed { place } => {
+            let endpoint = endpoint_of(row_at(state, place));
             put_keys(state, place, s, profile, lengths);
-            Received::KeysStored { taken }
+            Received::KeysStored { endpoint, taken }
         }
         Check::Refused { number } => Received::Refused { number, taken },
     }
@@ -156,8 +160,9 @@ fn disconnect(state: &mut [u8], s: &[u8], taken: usize) -> Received
     let identifier = octets::part(s, HEADER, HEADER + WIDTH);
     let place = place_of_identifier(state, identifier);
     if place < PLACES {
+        let endpoint = endpoint_of(row_at(state, place));
         put_vacant(state, place);
-        Received::Disconnected { taken }
+        Received::Disconnected { endpoint, taken }
     } else {
         Received::Refused {
             number: refusal::NO_ASSOCIATION,

@@ -23,9 +23,9 @@ use Rattle.rules.specs.Refusals.{wrongWidth, noRoom, notDtls, tooLong, s
 use Rattle.rules.specs.View.{Slot, View, identifierIn, endpointIn, isFor}
 use Rattle.rules.specs.Cards.{Held, blank, opened, keyed, Cards, filled, holding, endpointLive, allLive}
 use Rattle.rules.specs.CardAnswers as CardAnswers
-use Rattle.rules.specs.CardAnswers.{tunnelOn, identifierWith, associationOn, deliveryOn, messageDue, readDue, due}
+use Rattle.rules.specs.CardAnswers.{tunnelOn, identifierWith, associationOn, byCard, messageDue, readDue, due}
 use Rattle.rules.specs.Claim.{apart}
-use Rattle.rules.specs.ViewSteps.{isServing, inSlot, firstWith, has, isDown, startVerdict, openVerdict, packetVerdict, closeVerdict, lookVerdict, keysVerdict, fieldsAnswer, readAnswer, viewAnswer}
+use Rattle.rules.specs.ViewSteps.{isServing, inSlot, firstWith, endpointFor, has, isDown, startVerdict, openVerdict, packetVerdict, closeVerdict, lookVerdict, keysVerdict, fieldsAnswer, readAnswer, viewAnswer}
 use Rattle.rules.proofs.KeepLaws.{first-found, first-none, first-kept, first-is}
 use Rattle.rules.proofs.Accepting.{startOrder, openOrder, closeOrder, keysOrder}
 use Rattle.rules.proofs.ProfilesLaws.{due-reads}
@@ -46,6 +46,11 @@ apart-answered {w} n a q = go w ∙ ap (λ (x : Verdict). answered x n (apart a)
     go : (w : Verdict) → apart (answered w n a) ≡ answered w n (apart a)
     go allowed = refl
     go (refusal number) = refl
+
+-- where refusal 6 comes first
+known-first : (known : Bool) (w : Verdict) (taken : ℕ) (a : Answer) → answered (refuse (not known) 6 w) taken a ≡ cond known (answered w taken a) (refused 6 taken)
+known-first true w taken a = refl
+known-first false w taken a = refl
 
 -- what Look finds counts only where the endpoint is live
 found-live : (down live : Bool) (a b : Association) → (live ≡ true → a ≡ b)
@@ -123,23 +128,35 @@ module _ {v : View} {cards : Cards} (g : Agrees v cards) where
     abbrev i : List ℕ
     i = partIn octets identifierPlace
 
-    dtls-answer : (n taken : ℕ) → apart (fieldsAnswer v octets (TunneledDtls n) taken) ≡ deliveryOn (cards .card i .held) n taken
-    unfolding fieldsAnswer
-    dtls-answer n taken = apart-cond (has (isFor i) v) _ _ ∙ go (cards .card i .held) (known-is g i) (g .slots i)
+    -- 7, 8, 9 by the cards' list
+    abbrev listed : (profile : ℕ) → KeyLengths → Verdict
+    listed profile k = refuse (not (inList profile (listIn (tunnelOn cards)))) 7 (refuse (not (keysFit profile k)) 8 (refuse (not (mkiAndSaltsFit k)) 9 allowed))
+
+    -- by the endpoint of the association, or of the card
+    card-answer : (taken : ℕ) (a : ℕ → Answer) → cond (has (isFor i) v) (a (endpointFor v i)) (refused 6 taken) ≡ byCard (cards .card i .held) taken a
+    card-answer taken a = go (cards .card i .held) (known-is g i) (g .slots i)
       where
         go : (h : Held) → has (isFor i) v ≡ filled h → Search.keep (isFor i) (v .table) ≡ slotsOn i h
-            → cond (has (isFor i) v) (delivery (endpointIn (firstWith (isFor i) v)) (dtlsPlace n) taken) (refused 6 taken) ≡ deliveryOn h n taken
+            → cond (has (isFor i) v) (a (endpointFor v i)) (refused 6 taken) ≡ byCard h taken a
         go blank q s = rw q
         go (opened e) q s = rw (q, first-is (isFor i) none (v .table) s)
         go (keyed e k) q s = rw (q, first-is (isFor i) none (v .table) s)
+
+    keys-answer : (profile : ℕ) (k : KeyLengths) (taken : ℕ)
+        → apart (answered (keysVerdict v i profile k) taken (keysStored (endpointFor v i) taken)) ≡ messageDue cards octets (MediaKeys profile k) taken
+    keys-answer profile k taken =
+        let w : keysVerdict v i profile k ≡ refuse (not (has (isFor i) v)) 6 (listed profile k) = keys-due i profile k ∙ rw (known-is g i) in
+        apart-answered taken (keysStored (endpointFor v i) taken) w
+        ∙ known-first (has (isFor i) v) _ taken _
+        ∙ card-answer taken (λ e. answered (listed profile k) taken (keysStored e taken))
 
     fields-answer : (f : Fields) (taken : ℕ) → apart (fieldsAnswer v octets f taken) ≡ messageDue cards octets f taken
     unfolding fieldsAnswer
     fields-answer (SupportedProfiles x n) taken = refl
     fields-answer (UnsupportedVersion x) taken = refl
-    fields-answer (MediaKeys profile k) taken = apart-answered taken (keysStored taken) (keys-due i profile k)
-    fields-answer (TunneledDtls n) taken = dtls-answer n taken
-    fields-answer EndpointDisconnect taken = apart-cond (has (isFor i) v) _ _ ∙ ap (λ (b : Bool). cond b (removed taken) (refused 6 taken)) (known-is g i)
+    fields-answer (MediaKeys profile k) taken = keys-answer profile k taken
+    fields-answer (TunneledDtls n) taken = apart-cond (has (isFor i) v) _ _ ∙ card-answer taken (λ e. delivery e (dtlsPlace n) taken)
+    fields-answer EndpointDisconnect taken = apart-cond (has (isFor i) v) _ _ ∙ card-answer taken (λ e. removed e taken)
 
     read-answer : (r : Read.Answer) → apart (readAnswer v octets r) ≡ readDue cards octets r
     read-answer Read.moreNeeded = refl

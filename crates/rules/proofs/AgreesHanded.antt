@@ -14,12 +14,12 @@ use Rattle.message.specs.declared.bodies.Fields.{Fields}
 use Rattle.message.specs.declared.bodies.Fields.the-variants.{SupportedProfiles, UnsupportedVersion, MediaKeys, TunneledDtls, EndpointDisconnect}
 use Rattle.rules.specs.Tunnel.{isUp, listIn}
 use Rattle.rules.specs.Call as Call
-use Rattle.rules.specs.Verdict.{Verdict, allowed, refusal}
+use Rattle.rules.specs.Verdict.{Verdict, allowed, refusal, refuse}
 use Rattle.rules.specs.Answer.{Answer, refused, moreNeeded, wrote, placed, ended, found, keysStored, delivery, removed, version, answered}
 use Rattle.rules.specs.Refusals.{receiving}
 use Rattle.rules.specs.View.{View}
 use Rattle.rules.specs.Cards.{Held, blank, opened, keyed, Cards, filled}
-use Rattle.rules.specs.CardAnswers.{tunnelOn, deliveryOn, messageDue, readDue, due}
+use Rattle.rules.specs.CardAnswers.{tunnelOn, byCard, messageDue, readDue, due}
 use Rattle.rules.specs.Claim.{apart, nothing, handedBy, handedOn, handedFor, handedRead, handedDue}
 use Rattle.rules.specs.ViewSteps.{viewAnswer}
 use Rattle.rules.proofs.Choices.{no-both}
@@ -37,18 +37,24 @@ handed-apart octets (wrote written) = refl
 handed-apart octets (placed place) = refl
 handed-apart octets ended = refl
 handed-apart octets (found a) = refl
-handed-apart octets (keysStored taken) = refl
+handed-apart octets (keysStored endpoint taken) = refl
 handed-apart octets (delivery e dtls taken) = refl
-handed-apart octets (removed taken) = refl
+handed-apart octets (removed endpoint taken) = refl
 handed-apart octets (version number taken) = refl
 
 -- ---- by the answer that is due, where the tunnel is up
 
-keys-handed : (octets : List ℕ) (w : Verdict) (taken : ℕ) → handedBy octets (answered w taken (keysStored taken)) ≡ nothing
-keys-handed octets allowed taken = refl
-keys-handed octets (refusal number) taken = refl
+keys-handed : (octets : List ℕ) (w : Verdict) (endpoint taken : ℕ) → handedBy octets (answered w taken (keysStored endpoint taken)) ≡ nothing
+keys-handed octets allowed endpoint taken = refl
+keys-handed octets (refusal number) endpoint taken = refl
 
-dtls-handed : (octets : List ℕ) (h : Held) (n taken : ℕ) → handedBy octets (deliveryOn h n taken) ≡ handedOn h (partIn octets (dtlsPlace n))
+card-handed : (octets : List ℕ) (h : Held) (taken : ℕ) (a : ℕ → Answer) → ((e : ℕ) → handedBy octets (a e) ≡ nothing) → handedBy octets (byCard h taken a) ≡ nothing
+card-handed octets blank taken a n = refl
+card-handed octets (opened e) taken a n = n e
+card-handed octets (keyed e k) taken a n = n e
+
+dtls-handed : (octets : List ℕ) (h : Held) (n taken : ℕ)
+    → handedBy octets (byCard h taken (λ e. delivery e (dtlsPlace n) taken)) ≡ handedOn h (partIn octets (dtlsPlace n))
 dtls-handed octets blank n taken = refl
 dtls-handed octets (opened e) n taken = refl
 dtls-handed octets (keyed e k) n taken = refl
@@ -67,10 +73,11 @@ module _ (cards : Cards) (octets : List ℕ) where
   message-handed (SupportedProfiles x n) taken = refl
   message-handed (UnsupportedVersion x) taken = refl
   message-handed (MediaKeys profile k) taken =
+      card-handed octets (cards .card i .held) taken _ (λ e.
       keys-handed octets
-      (keysOrder (not (filled (cards .card i .held))) (not (inList profile (listIn (tunnelOn cards)))) (not (keysFit profile k)) (not (mkiAndSaltsFit k))) taken
+      (refuse (not (inList profile (listIn (tunnelOn cards)))) 7 (refuse (not (keysFit profile k)) 8 (refuse (not (mkiAndSaltsFit k)) 9 allowed))) e taken)
   message-handed (TunneledDtls n) taken = dtls-handed octets (cards .card i .held) n taken
-  message-handed EndpointDisconnect taken = by-choice (λ (a : Answer). handedBy octets a ≡ nothing) (filled (cards .card i .held)) _ _ (λ q. refl) (λ q. refl)
+  message-handed EndpointDisconnect taken = card-handed octets (cards .card i .held) taken _ (λ e. refl)
 
   read-handed : (r : Read.Answer) → handedBy octets (readDue cards octets r) ≡ handedRead cards octets r
   read-handed Read.moreNeeded = refl

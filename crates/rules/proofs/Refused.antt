@@ -29,9 +29,9 @@ leaves (wrote octets) old new = new
 leaves (placed place) old new = new
 leaves ended old new = new
 leaves (found a) old new = new
-leaves (keysStored taken) old new = new
+leaves (keysStored endpoint taken) old new = new
 leaves (delivery endpoint dtls taken) old new = new
-leaves (removed taken) old new = new
+leaves (removed endpoint taken) old new = new
 leaves (version number taken) old new = new
 
 module _ (s : List ℕ) where
@@ -65,9 +65,9 @@ module _ (s : List ℕ) where
   by-fields octets (UnsupportedVersion v) taken = refl
   by-fields octets (MediaKeys profile k) taken =
       let i = partIn octets identifierPlace in
-      by-verdict (Table.keysVerdict s i profile k) (keys-avoid 2 refl refl refl refl s i profile k) taken (keysStored taken) (Table.rekeyed s i octets profile k) refl
+      by-verdict (Table.keysVerdict s i profile k) (keys-avoid 2 refl refl refl refl s i profile k) taken (keysStored (Table.endpointFor s i) taken) (Table.rekeyed s i octets profile k) refl
   by-fields octets (TunneledDtls n) taken = by-endpoint (knows s (partIn octets identifierPlace)) taken (delivery (endpointOf (rowOf s (Table.placeOfIdentifier s (partIn octets identifierPlace)))) (dtlsPlace n) taken) refl
-  by-fields octets EndpointDisconnect taken = by-known (knows s (partIn octets identifierPlace)) taken (removed taken) (without s (partIn octets identifierPlace)) refl
+  by-fields octets EndpointDisconnect taken = by-known (knows s (partIn octets identifierPlace)) taken (removed (Table.endpointFor s (partIn octets identifierPlace)) taken) (without s (partIn octets identifierPlace)) refl
 
   by-read : (octets : List ℕ) (r : Read.Answer) → leaves (Table.readAnswer s octets r) s (Table.readNext s octets r) ≡ Table.readNext s octets r
   by-read octets Read.moreNeeded = refl

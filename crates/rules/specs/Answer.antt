@@ -19,10 +19,11 @@ pub data Answer : Type 0 where
   placed : (place : ℕ) → Answer
   ended : Answer
   found : Association → Answer
-  keysStored : (taken : ℕ) → Answer
+  -- by the endpoint of the association that the message names
+  keysStored : (endpoint taken : ℕ) → Answer
   -- where the DTLS octets stand in the lent octets
   delivery : (endpoint : ℕ) (dtls : Bounds) (taken : ℕ) → Answer
-  removed : (taken : ℕ) → Answer
+  removed : (endpoint taken : ℕ) → Answer
   version : (number taken : ℕ) → Answer
 
 -- an answer where the call is allowed, or its refusal

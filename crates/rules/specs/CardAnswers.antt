@@ -78,26 +78,27 @@ lookDue cards endpoint =
     answered (refuse (isDown cards) 1 (refuse (not (endpointLive cards endpoint)) 6 allowed)) 0
     (found (associationOn (identifierWith cards endpoint) (cards .card (identifierWith cards endpoint) .held)))
 
--- a delivery goes to the endpoint on the card of the identifier that the message names
-abbrev pub deliveryOn : Held → (n taken : ℕ) → Answer
-deliveryOn blank n taken = refused 6 taken
-deliveryOn (opened endpoint) n taken = delivery endpoint (dtlsPlace n) taken
-deliveryOn (keyed endpoint k) n taken = delivery endpoint (dtlsPlace n) taken
+-- the answer to a message that names an identifier goes by the endpoint on its card; 6 where that is blank
+abbrev pub byCard : Held → (taken : ℕ) → (ℕ → Answer) → Answer
+byCard blank taken a = refused 6 taken
+byCard (opened endpoint) taken a = a endpoint
+byCard (keyed endpoint k) taken a = a endpoint
 
 -- a SupportedProfiles does not come this far: refusal 4 is given before its body is read
 abbrev pub messageDue : Cards → List ℕ → Fields → (taken : ℕ) → Answer
 messageDue cards octets (SupportedProfiles v n) taken = refused 4 taken
 messageDue cards octets (UnsupportedVersion v) taken = version v taken
 messageDue cards octets (MediaKeys profile k) taken =
+    byCard (cards .card (partIn octets identifierPlace) .held) taken (λ endpoint.
     answered
-    (refuse (not (filled (cards .card (partIn octets identifierPlace) .held))) 6
     (refuse (not (inList profile (listIn (tunnelOn cards)))) 7
     (refuse (not (keysFit profile k)) 8
-    (refuse (not (mkiAndSaltsFit k)) 9 allowed)))) taken
-    (keysStored taken)
-messageDue cards octets (TunneledDtls n) taken = deliveryOn (cards .card (partIn octets identifierPlace) .held) n taken
+    (refuse (not (mkiAndSaltsFit k)) 9 allowed))) taken
+    (keysStored endpoint taken))
+messageDue cards octets (TunneledDtls n) taken =
+    byCard (cards .card (partIn octets identifierPlace) .held) taken (λ endpoint. delivery endpoint (dtlsPlace n) taken)
 messageDue cards octets EndpointDisconnect taken =
-    cond (filled (cards .card (partIn octets identifierPlace) .held)) (removed taken) (refused 6 taken)
+    byCard (cards .card (partIn octets identifierPlace) .held) taken (λ endpoint. removed endpoint taken)
 
 abbrev pub readDue : Cards → List ℕ → Read.Answer → Answer
 readDue cards octets Read.moreNeeded = moreNeeded

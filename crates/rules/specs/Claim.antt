@@ -57,9 +57,9 @@ apart (wrote octets) = wrote octets
 apart (placed place) = placed 0
 apart ended = ended
 apart (found a) = found a
-apart (keysStored taken) = keysStored taken
+apart (keysStored endpoint taken) = keysStored endpoint taken
 apart (delivery endpoint dtls taken) = delivery endpoint dtls taken
-apart (removed taken) = removed taken
+apart (removed endpoint taken) = removed endpoint taken
 apart (version number taken) = version number taken
 
 -- what a call hands out: DTLS octets with an endpoint, or nothing
@@ -75,9 +75,9 @@ handedBy octets (wrote written) = nothing
 handedBy octets (placed place) = nothing
 handedBy octets ended = nothing
 handedBy octets (found a) = nothing
-handedBy octets (keysStored taken) = nothing
+handedBy octets (keysStored endpoint taken) = nothing
 handedBy octets (delivery endpoint dtls taken) = handed endpoint (partIn octets dtls)
-handedBy octets (removed taken) = nothing
+handedBy octets (removed endpoint taken) = nothing
 handedBy octets (version number taken) = nothing
 
 unfoldable pub handout : List ℕ → Call.Call → Handed

@@ -125,16 +125,20 @@ abbrev pub rekeyed : List ℕ → List ℕ → List ℕ → (profile : ℕ) → 
 rekeyed s identifier octets profile k =
     withRow s (placeOfIdentifier s identifier) (keyedRow (keysIn octets profile k) (rowOf s (placeOfIdentifier s identifier)))
 
+-- the endpoint of an identifier's association
+abbrev pub endpointFor : (block identifier : List ℕ) → ℕ
+endpointFor s identifier = endpointOf (rowOf s (placeOfIdentifier s identifier))
+
 -- a SupportedProfiles does not come this far: refusal 4 is given before its body is read
 unfoldable pub fieldsAnswer : List ℕ → List ℕ → Fields → (taken : ℕ) → Answer
 fieldsAnswer s octets (SupportedProfiles v n) taken = refused 4 taken
 fieldsAnswer s octets (UnsupportedVersion v) taken = version v taken
-fieldsAnswer s octets (MediaKeys profile k) taken = answered (keysVerdict s (partIn octets identifierPlace) profile k) taken (keysStored taken)
+fieldsAnswer s octets (MediaKeys profile k) taken =
+    answered (keysVerdict s (partIn octets identifierPlace) profile k) taken (keysStored (endpointFor s (partIn octets identifierPlace)) taken)
 fieldsAnswer s octets (TunneledDtls n) taken =
-    cond (knows s (partIn octets identifierPlace))
-    (delivery (endpointOf (rowOf s (placeOfIdentifier s (partIn octets identifierPlace)))) (dtlsPlace n) taken)
-    (refused 6 taken)
-fieldsAnswer s octets EndpointDisconnect taken = cond (knows s (partIn octets identifierPlace)) (removed taken) (refused 6 taken)
+    cond (knows s (partIn octets identifierPlace)) (delivery (endpointFor s (partIn octets identifierPlace)) (dtlsPlace n) taken) (refused 6 taken)
+fieldsAnswer s octets EndpointDisconnect taken =
+    cond (knows s (partIn octets identifierPlace)) (removed (endpointFor s (partIn octets identifierPlace)) taken) (refused 6 taken)
 
 unfoldable pub fieldsNext : List ℕ → List ℕ → Fields → List ℕ
 fieldsNext s octets (SupportedProfiles v n) = s

@@ -88,15 +88,19 @@ unfoldable pub keysVerdict : View → List ℕ → (profile : ℕ) → KeyLength
 keysVerdict v i profile k =
     keysOrder (not (has (isFor i) v)) (not (inList profile (listIn (v .tunnel)))) (not (keysFit profile k)) (not (mkiAndSaltsFit k))
 
+-- the endpoint of an identifier's association
+abbrev pub endpointFor : View → (identifier : List ℕ) → ℕ
+endpointFor v identifier = endpointIn (firstWith (isFor identifier) v)
+
 unfoldable pub fieldsAnswer : View → List ℕ → Fields → (taken : ℕ) → Answer
 fieldsAnswer v octets (SupportedProfiles x n) taken = refused 4 taken
 fieldsAnswer v octets (UnsupportedVersion x) taken = version x taken
-fieldsAnswer v octets (MediaKeys profile k) taken = answered (keysVerdict v (partIn octets identifierPlace) profile k) taken (keysStored taken)
+fieldsAnswer v octets (MediaKeys profile k) taken =
+    answered (keysVerdict v (partIn octets identifierPlace) profile k) taken (keysStored (endpointFor v (partIn octets identifierPlace)) taken)
 fieldsAnswer v octets (TunneledDtls n) taken =
-    cond (has (isFor (partIn octets identifierPlace)) v)
-    (delivery (endpointIn (firstWith (isFor (partIn octets identifierPlace)) v)) (dtlsPlace n) taken)
-    (refused 6 taken)
-fieldsAnswer v octets EndpointDisconnect taken = cond (has (isFor (partIn octets identifierPlace)) v) (removed taken) (refused 6 taken)
+    cond (has (isFor (partIn octets identifierPlace)) v) (delivery (endpointFor v (partIn octets identifierPlace)) (dtlsPlace n) taken) (refused 6 taken)
+fieldsAnswer v octets EndpointDisconnect taken =
+    cond (has (isFor (partIn octets identifierPlace)) v) (removed (endpointFor v (partIn octets identifierPlace)) taken) (refused 6 taken)
 
 unfoldable pub fieldsNext : View → List ℕ → Fields → View
 fieldsNext v octets (SupportedProfiles x n) = v

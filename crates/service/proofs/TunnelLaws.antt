@@ -18,10 +18,10 @@ use Rattle.message.specs.Read as Read
 use Rattle.message.specs.declared.bodies.Fields.{Fields}
 use Rattle.message.specs.declared.bodies.Fields.the-variants.{SupportedProfiles, UnsupportedVersion, MediaKeys, TunneledDtls, EndpointDisconnect}
 use Rattle.rules.specs.Answer.{Answer, refused, moreNeeded, wrote, placed, ended, found, keysStored, delivery, removed, version, answered}
-use Rattle.rules.specs.Layout.{up, endpointOf, rowOf, octetsOf32}
+use Rattle.rules.specs.Layout.{up, octetsOf32}
 use Rattle.distributor.specs.Outcomes.{receivedOf}
 use Rattle.rules.specs.Refusals.{receiving}
-use Rattle.rules.specs.Table.{placeOfIdentifier, knows, keysVerdict, fieldsAnswer, readAnswer, octetsAnswer}
+use Rattle.rules.specs.Table.{endpointFor, knows, keysVerdict, fieldsAnswer, readAnswer, octetsAnswer}
 use Rattle.rules.specs.Verdict.{Verdict, allowed, refusal}
 use Rattle.distributor.specs.declared.receiving.Received.{Received}
 use Rattle.service.specs.Limits.{room, answerLimit}
@@ -35,26 +35,26 @@ OfTunnel (wrote octets) = ⊥
 OfTunnel (placed place) = ⊥
 OfTunnel ended = ⊥
 OfTunnel (found a) = ⊥
-OfTunnel (keysStored taken) = Unit {0}
+OfTunnel (keysStored endpoint taken) = Unit {0}
 OfTunnel (delivery endpoint dtls taken) = dtls .start ≡ header + width + 2
-OfTunnel (removed taken) = Unit {0}
+OfTunnel (removed endpoint taken) = Unit {0}
 OfTunnel (version number taken) = Unit {0}
 
-of-verdict : (w : Verdict) (taken : ℕ) → OfTunnel (answered w taken (keysStored taken))
-of-verdict allowed taken = tt
-of-verdict (refusal number) taken = tt
+of-verdict : (w : Verdict) (endpoint taken : ℕ) → OfTunnel (answered w taken (keysStored endpoint taken))
+of-verdict allowed endpoint taken = tt
+of-verdict (refusal number) endpoint taken = tt
 
 module _ (s octets : List ℕ) where
   of-fields : (f : Fields) (taken : ℕ) → OfTunnel (fieldsAnswer s octets f taken)
   unfolding fieldsAnswer
   of-fields (SupportedProfiles v n) taken = tt
   of-fields (UnsupportedVersion v) taken = tt
-  of-fields (MediaKeys profile k) taken = of-verdict (keysVerdict s (partIn octets identifierPlace) profile k) taken
+  of-fields (MediaKeys profile k) taken = of-verdict (keysVerdict s (partIn octets identifierPlace) profile k) (endpointFor s (partIn octets identifierPlace)) taken
   of-fields (TunneledDtls n) taken =
       by-choice OfTunnel (knows s (partIn octets identifierPlace))
-      (delivery (endpointOf (rowOf s (placeOfIdentifier s (partIn octets identifierPlace)))) (dtlsPlace n) taken) (refused 6 taken) (λ h. refl) (λ h. tt)
+      (delivery (endpointFor s (partIn octets identifierPlace)) (dtlsPlace n) taken) (refused 6 taken) (λ h. refl) (λ h. tt)
   of-fields EndpointDisconnect taken =
-      by-choice OfTunnel (knows s (partIn octets identifierPlace)) (removed taken) (refused 6 taken) (λ h. tt) (λ h. tt)
+      by-choice OfTunnel (knows s (partIn octets identifierPlace)) (removed (endpointFor s (partIn octets identifierPlace)) taken) (refused 6 taken) (λ h. tt) (λ h. tt)
 
   of-reading : (r : Read.Answer) → OfTunnel (readAnswer s octets r)
   of-reading Read.moreNeeded = tt

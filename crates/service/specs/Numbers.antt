@@ -13,9 +13,9 @@ numberIn (wrote octets) = 0
 numberIn (placed place) = place
 numberIn ended = 0
 numberIn (found a) = 0
-numberIn (keysStored taken) = taken
+numberIn (keysStored endpoint taken) = taken
 numberIn (delivery endpoint dtls taken) = taken
-numberIn (removed taken) = taken
+numberIn (removed endpoint taken) = taken
 numberIn (version number taken) = taken
 
 -- what two octets can say

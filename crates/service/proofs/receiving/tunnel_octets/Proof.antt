@@ -13,7 +13,7 @@ delivery-requires : tie.Need-delivery-requires
 unfolding answer
 delivery-requires c κs =
     let a = c .before .before .before .before .before .before .before .before .args in
-    let e = received (now (a .state)) (now (a .body)) _ (sym (ap receivedOf (c .before .before .before .endpoint .given .1)) ∙ c .before .before .before .before .before .tunnel-octets .ensures .0) in
+    let e = received (now (a .state)) (now (a .body)) _ (sym (ap receivedOf (c .before .before .before .endpoint2 .given .1)) ∙ c .before .before .before .before .before .tunnel-octets .ensures .0) in
     let f = delivery-fits (now (a .state)) (now (a .body)) _ _ _ e (c .before .before .before .before .before .before .before .before .pre) in
     rw (c .part-in .ensures) f
 
@@ -39,19 +39,19 @@ returns-4 : tie.Need-returns-4
 unfolding answer step
 returns-4 c =
     let a = c .before .before .before .before .before .before .before .before .args in
-    call-served (Call.tunnelOctets (now (a .body))) (now (a .state)) _ (now (a .out)) _ (received (now (a .state)) (now (a .body)) _ (sym (ap receivedOf (c .before .before .before .taken2 .given .1)) ∙ c .before .before .before .before .before .tunnel-octets .ensures .0)) (c .before .before .before .before .before .tunnel-octets .ensures .1) (c .numbered .ensures)
+    call-served (Call.tunnelOctets (now (a .body))) (now (a .state)) _ (now (a .out)) _ (received (now (a .state)) (now (a .body)) _ (sym (ap receivedOf (c .before .before .before .endpoint .given .1)) ∙ c .before .before .before .before .before .tunnel-octets .ensures .0)) (c .before .before .before .before .before .tunnel-octets .ensures .1) (c .of-endpoint .ensures)
 
 returns-5 : tie.Need-returns-5
 unfolding answer step
 returns-5 c =
     let a = c .before .before .before .before .before .before .before .before .before .args in
-    call-served (Call.tunnelOctets (now (a .body))) (now (a .state)) _ (now (a .out)) _ (received (now (a .state)) (now (a .body)) _ (sym (ap receivedOf (c .before .before .before .before .endpoint .given .1)) ∙ c .before .before .before .before .before .before .tunnel-octets .ensures .0)) (c .before .before .before .before .before .before .tunnel-octets .ensures .1) (same-octets (now (a .out)) _ _ _ (c .before .part-in .ensures) (c .delivery .ensures))
+    call-served (Call.tunnelOctets (now (a .body))) (now (a .state)) _ (now (a .out)) _ (received (now (a .state)) (now (a .body)) _ (sym (ap receivedOf (c .before .before .before .before .endpoint2 .given .1)) ∙ c .before .before .before .before .before .before .tunnel-octets .ensures .0)) (c .before .before .before .before .before .before .tunnel-octets .ensures .1) (same-octets (now (a .out)) _ _ _ (c .before .part-in .ensures) (c .delivery .ensures))
 
 returns-6 : tie.Need-returns-6
 unfolding answer step
 returns-6 c =
     let a = c .before .before .before .before .before .before .before .before .args in
-    call-served (Call.tunnelOctets (now (a .body))) (now (a .state)) _ (now (a .out)) _ (received (now (a .state)) (now (a .body)) _ (sym (ap receivedOf (c .before .before .before .taken3 .given .1)) ∙ c .before .before .before .before .before .tunnel-octets .ensures .0)) (c .before .before .before .before .before .tunnel-octets .ensures .1) (c .numbered2 .ensures)
+    call-served (Call.tunnelOctets (now (a .body))) (now (a .state)) _ (now (a .out)) _ (received (now (a .state)) (now (a .body)) _ (sym (ap receivedOf (c .before .before .before .endpoint3 .given .1)) ∙ c .before .before .before .before .before .tunnel-octets .ensures .0)) (c .before .before .before .before .before .tunnel-octets .ensures .1) (c .of-endpoint2 .ensures)
 
 returns-7 : tie.Need-returns-7
 unfolding answer step
