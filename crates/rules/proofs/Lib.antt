@@ -45,3 +45,5 @@ pub mod Claimed
 pub mod KeysMean
 pub mod Refused
 pub mod LookedUp
+pub mod Taken
+pub mod SingleTests

@@ -10,10 +10,12 @@ pub mod Index
 pub mod Verdict
 pub mod Answer
 pub mod Refusals
+pub mod SingleTests
 pub mod Table
 pub mod View
 pub mod Cards
 pub mod CardAnswers
+pub mod Taken
 pub mod Claim
 pub mod ViewSteps
 pub mod Lookup
