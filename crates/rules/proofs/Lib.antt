@@ -46,4 +46,5 @@ pub mod KeysMean
 pub mod Refused
 pub mod LookedUp
 pub mod Taken
+pub mod GoodLists
 pub mod SingleTests

@@ -22,6 +22,7 @@ use Rattle.rules.specs.Refusals as Refusals
 use Rattle.rules.specs.Refusals.{isDtlsKind}
 use Rattle.rules.specs.SingleTests.{SingleTests}
 use Rattle.rules.proofs.Cases.{by-size}
+use Rattle.rules.proofs.GoodLists.{good-list-means}
 
 -- ---- 20
 
@@ -100,4 +101,5 @@ single-tests = record {
   notDtls = not-dtls-means;
   tooLong = too-long-means;
   unwritable = unwritable-means;
+  goodList = good-list-means;
 }
