@@ -2,21 +2,21 @@
 use Prim.Native.Nat.{ℕ, _+_, _≤_, _<_}
 use mathlib.Core.Path.{_≡_, refl, sym, ap, _∙_, subst}
 use mathlib.Core.Logic.{inl, inr}
-use mathlib.Core.Bool.{Bool, true, false, cond, not}
+use mathlib.Core.Bool.{Bool, true, false, not}
 use mathlib.Core.List.{List}
 use native.Mathlib.Omega.{arith}
 use lib.ListN.{length}
 use borrow.Author.Tests.{lt-ltb, le-ltb, ne-eqb}
 use Rattle.octets.specs.Bounds.{partIn}
+use Rattle.octets.specs.declared.parts.Bounds.{Bounds}
 use Rattle.octets.specs.Number.{octetAt, number16At}
 use Rattle.octets.specs.Part.{part}
 use Rattle.octets.proofs.Tests.{by-choice}
 use Rattle.message.specs.Limits.{header}
 use Rattle.message.specs.Frame as Frame
 use Rattle.message.specs.Frame.{kindOf}
-use Rattle.message.specs.Body.{Content, content}
-use Rattle.message.specs.Body as Body
-use Rattle.message.specs.Parts.{identifierPlace}
+use Rattle.message.specs.Body.{Content}
+use Rattle.message.specs.Parts.{identifierPlace, dtlsPlace}
 use Rattle.message.specs.Profiles.{inList, keysFit, mkiAndSaltsFit}
 use Rattle.message.specs.Read as Read
 use Rattle.message.specs.Read.{bodyAnswer, frameAnswer, reading}
@@ -31,14 +31,13 @@ use Rattle.message.proofs.Taken.{whole-framed, reads-by-steps}
 use Rattle.rules.specs.Tunnel.{isUp, listIn}
 use Rattle.rules.specs.Call as Call
 use Rattle.rules.specs.Verdict.{allowed, refusal, refuse}
-use Rattle.rules.specs.Answer.{Answer, refused, moreNeeded, keysStored, version, answered}
+use Rattle.rules.specs.Answer.{Answer, refused, moreNeeded, keysStored, delivery, version, answered}
 use Rattle.rules.specs.Layout.{up, listOf}
 use Rattle.rules.specs.Refusals.{received, receiving}
 use Rattle.rules.specs.Table.{keysVerdict, knows, fieldsAnswer, readAnswer, octetsAnswer}
 use Rattle.rules.specs.Cards.{Held, blank, opened, keyed, Cards, filled}
 use Rattle.rules.specs.CardAnswers.{tunnelOn, deliveryOn, readDue, due}
-use Rattle.rules.specs.Taken.{Takes, ReceivesBySteps}
-use Rattle.rules.proofs.Cases.{by-order}
+use Rattle.rules.specs.Taken.{RefusedWith, KeysAnswer, DtlsAnswer, DisconnectAnswer, ReceivesBySteps}
 use Rattle.rules.proofs.ProfilesLaws.{by-profiles, due-reads}
 
 -- ---- an octet of type 1 at the front of a whole message, and of any other
@@ -60,9 +59,9 @@ record Answering (make : Read.Answer → Answer) : Type 0 where
   more : make Read.moreNeeded ≡ moreNeeded
   refusing : (number taken : ℕ) → make (Read.refused number taken) ≡ refused number taken
   reporting : (v taken : ℕ) → make (Read.accepted (UnsupportedVersion v) taken) ≡ version v taken
-  keys : (profile : ℕ) (k : KeyLengths) (taken : ℕ) → Takes taken (make (Read.accepted (MediaKeys profile k) taken))
-  dtls : (n taken : ℕ) → Takes taken (make (Read.accepted (TunneledDtls n) taken))
-  disconnect : (taken : ℕ) → Takes taken (make (Read.accepted EndpointDisconnect taken))
+  keys : (profile : ℕ) (k : KeyLengths) (taken : ℕ) → KeysAnswer taken (make (Read.accepted (MediaKeys profile k) taken))
+  dtls : (n taken : ℕ) → DtlsAnswer taken (make (Read.accepted (TunneledDtls n) taken))
+  disconnect : (taken : ℕ) → DisconnectAnswer taken (make (Read.accepted EndpointDisconnect taken))
 
 module _ (octets : List ℕ) {make : Read.Answer → Answer} (a : Answering make) where
   abbrev n : ℕ
@@ -89,27 +88,25 @@ module _ (octets : List ℕ) {make : Read.Answer → Answer} (a : Answering make
   unfolding receiving
   received-kind w kind e = ap (received octets) (whole-framed octets w ∙ ap (λ (k : Kind). Frame.whole k n) e)
 
-  abbrev BodyTakes : Content → Type 0
-  BodyTakes c = Takes (3 + n) (make (bodyAnswer (header + n) c))
+  bad-body : {most : ℕ} → 5 ≤ most → RefusedWith 5 most (3 + n) (make (Read.refused 5 (3 + n)))
+  bad-body h = record { number = 5; from = omega arith; to = h; told = a .refusing 5 (3 + n) }
 
-  bad-takes : BodyTakes (Body.refused 5)
-  bad-takes = rw (a .refusing 5 (header + n)) (omega arith, omega arith, refl)
+  -- what holds of the answer to a body, good or bad, holds of the answer to its message
+  module _ (P : Answer → Type 0) (w : WholeAt octets) where
+    abbrev OfBody : Content → Type 0
+    OfBody c = P (make (bodyAnswer (header + n) c))
 
-  by-kind : WholeAt octets → (kind : Kind) → kindOf type ≡ kind → BodyTakes (content kind body) → received octets (Frame.whole kind n) ≡ bodyAnswer (header + n) (content kind body)
-      → Takes (3 + n) (make (receiving octets))
-  by-kind w kind e h q = subst (λ r. Takes (3 + n) (make r)) (sym (received-kind w kind e ∙ q)) h
+    keys-message : type ≡ 3 → ((profile : ℕ) (k : KeyLengths) → P (make (Read.accepted (MediaKeys profile k) (3 + n)))) → P (make (Read.refused 5 (3 + n))) → P (make (receiving octets))
+    unfolding kindOf
+    keys-message e good bad = subst (λ r. P (make r)) (sym (received-kind w Kind.MediaKeys (ap kindOf e))) (keys-body OfBody bad body good)
 
-  keys-take : WholeAt octets → type ≡ 3 → Takes (3 + n) (make (receiving octets))
-  unfolding kindOf
-  keys-take w e = by-kind w Kind.MediaKeys (ap kindOf e) (keys-body BodyTakes bad-takes body (λ profile k. a .keys profile k (header + n))) refl
+    dtls-message : type ≡ 4 → ((m : ℕ) → P (make (Read.accepted (TunneledDtls m) (3 + n)))) → P (make (Read.refused 5 (3 + n))) → P (make (receiving octets))
+    unfolding kindOf
+    dtls-message e good bad = subst (λ r. P (make r)) (sym (received-kind w Kind.TunneledDtls (ap kindOf e))) (dtls-body OfBody bad body good)
 
-  dtls-takes : WholeAt octets → type ≡ 4 → Takes (3 + n) (make (receiving octets))
-  unfolding kindOf
-  dtls-takes w e = by-kind w Kind.TunneledDtls (ap kindOf e) (dtls-body BodyTakes bad-takes body (λ m. a .dtls m (header + n))) refl
-
-  disconnect-takes : WholeAt octets → type ≡ 5 → Takes (3 + n) (make (receiving octets))
-  unfolding kindOf
-  disconnect-takes w e = by-kind w Kind.EndpointDisconnect (ap kindOf e) (disconnect-body BodyTakes bad-takes body (a .disconnect (header + n))) refl
+    disconnect-message : type ≡ 5 → P (make (Read.accepted EndpointDisconnect (3 + n))) → P (make (Read.refused 5 (3 + n))) → P (make (receiving octets))
+    unfolding kindOf
+    disconnect-message e good bad = subst (λ r. P (make r)) (sym (received-kind w Kind.EndpointDisconnect (ap kindOf e))) (disconnect-body OfBody bad body good)
 
   -- more needed, or refusal 2, whatever the type is
   few-received : length octets < 3 → AsRead Read.moreNeeded
@@ -140,32 +137,39 @@ module _ (octets : List ℕ) {make : Read.Answer → Answer} (a : Answering make
         awaited = λ o l h. ap make (awaited-received o l h) ∙ a .more;
         profiles = λ w e. ap make (profiles-received w e) ∙ a .refusing 4 (3 + n);
         unlisted = λ w u. ap make (of-unlisted u ∙ steps .unlisted w u) ∙ a .refusing 3 (3 + n);
-        listed = λ w l m. by-order type 4 (λ h. keys-take w (omega arith)) (dtls-takes w) (λ h. disconnect-takes w (omega arith));
+        keys = λ w e. keys-message (KeysAnswer (3 + n)) w e (λ profile k. a .keys profile k (3 + n)) (inr (bad-body (omega arith)));
+        dtls = λ w e. dtls-message (DtlsAnswer (3 + n)) w e (λ m. a .dtls m (3 + n)) (inr (bad-body (omega arith)));
+        disconnect = λ w e. disconnect-message (DisconnectAnswer (3 + n)) w e (a .disconnect (3 + n)) (inr (bad-body (omega arith)));
       }
 
 -- ---- the table
 
-keys-refusals : (a b c d : Bool) (taken : ℕ) → Takes taken (answered (refuse a 6 (refuse b 7 (refuse c 8 (refuse d 9 allowed)))) taken (keysStored taken))
-keys-refusals true b c d taken = (omega arith, omega arith, refl)
-keys-refusals false true c d taken = (omega arith, omega arith, refl)
-keys-refusals false false true d taken = (omega arith, omega arith, refl)
-keys-refusals false false false true taken = (omega arith, omega arith, refl)
-keys-refusals false false false false taken = refl
+keys-refused : (a b c d : Bool) (taken : ℕ) → KeysAnswer taken (answered (refuse a 6 (refuse b 7 (refuse c 8 (refuse d 9 allowed)))) taken (keysStored taken))
+keys-refused true b c d taken = inr (record { number = 6; from = omega arith; to = omega arith; told = refl })
+keys-refused false true c d taken = inr (record { number = 7; from = omega arith; to = omega arith; told = refl })
+keys-refused false false true d taken = inr (record { number = 8; from = omega arith; to = omega arith; told = refl })
+keys-refused false false false true taken = inr (record { number = 9; from = omega arith; to = omega arith; told = refl })
+keys-refused false false false false taken = inl refl
 
 -- refusal 6 where there is no record
-by-known : (b : Bool) (taken : ℕ) (x : Answer) → Takes taken x → Takes taken (cond b x (refused 6 taken))
-by-known b taken x h = by-choice (Takes taken) b _ _ (λ _. h) (λ _. (omega arith, omega arith, refl))
+unknown : (taken : ℕ) → RefusedWith 5 6 taken (refused 6 taken)
+unknown taken = record { number = 6; from = omega arith; to = omega arith; told = refl }
+
+delivered : (endpoint : ℕ) (dtls : Bounds) (taken : ℕ) → DtlsAnswer taken (delivery endpoint dtls taken)
+delivered endpoint dtls taken = inl (record { endpoint = endpoint; dtls = dtls; told = refl })
 
 table-answering : (s octets : List ℕ) → Answering (readAnswer s octets)
 unfolding fieldsAnswer keysVerdict
-table-answering s octets = record {
-  more = refl;
-  refusing = λ number taken. refl;
-  reporting = λ v taken. refl;
-  keys = λ profile k taken. keys-refusals (not (knows s (partIn octets identifierPlace))) (not (inList profile (listOf s))) (not (keysFit profile k)) (not (mkiAndSaltsFit k)) taken;
-  dtls = λ m taken. by-known (knows s (partIn octets identifierPlace)) taken _ refl;
-  disconnect = λ taken. by-known (knows s (partIn octets identifierPlace)) taken _ refl;
-}
+table-answering s octets =
+    let identifier = partIn octets identifierPlace in
+    record {
+      more = refl;
+      refusing = λ number taken. refl;
+      reporting = λ v taken. refl;
+      keys = λ profile k taken. keys-refused (not (knows s identifier)) (not (inList profile (listOf s))) (not (keysFit profile k)) (not (mkiAndSaltsFit k)) taken;
+      dtls = λ m taken. by-choice (DtlsAnswer taken) (knows s identifier) _ _ (λ _. delivered _ _ taken) (λ _. inr (unknown taken));
+      disconnect = λ taken. by-choice (DisconnectAnswer taken) (knows s identifier) _ _ (λ _. inl refl) (λ _. inr (unknown taken));
+    }
 
 pub table-by-steps : (s octets : List ℕ) → up s ≡ true → ReceivesBySteps octets (octetsAnswer s octets)
 unfolding octetsAnswer
@@ -173,20 +177,22 @@ table-by-steps s octets e = rw e (receives-by-steps octets (table-answering s oc
 
 -- ---- the cards
 
-by-held : (held : Held) (m taken : ℕ) → Takes taken (deliveryOn held m taken)
-by-held blank m taken = (omega arith, omega arith, refl)
-by-held (opened endpoint) m taken = refl
-by-held (keyed endpoint k) m taken = refl
+by-held : (held : Held) (m taken : ℕ) → DtlsAnswer taken (deliveryOn held m taken)
+by-held blank m taken = inr (unknown taken)
+by-held (opened endpoint) m taken = delivered endpoint (dtlsPlace m) taken
+by-held (keyed endpoint k) m taken = delivered endpoint (dtlsPlace m) taken
 
 cards-answering : (cards : Cards) (octets : List ℕ) → Answering (readDue cards octets)
-cards-answering cards octets = record {
-  more = refl;
-  refusing = λ number taken. refl;
-  reporting = λ v taken. refl;
-  keys = λ profile k taken. keys-refusals (not (filled (cards .card (partIn octets identifierPlace) .held))) (not (inList profile (listIn (tunnelOn cards)))) (not (keysFit profile k)) (not (mkiAndSaltsFit k)) taken;
-  dtls = λ m taken. by-held (cards .card (partIn octets identifierPlace) .held) m taken;
-  disconnect = λ taken. by-known (filled (cards .card (partIn octets identifierPlace) .held)) taken _ refl;
-}
+cards-answering cards octets =
+    let held = cards .card (partIn octets identifierPlace) .held in
+    record {
+      more = refl;
+      refusing = λ number taken. refl;
+      reporting = λ v taken. refl;
+      keys = λ profile k taken. keys-refused (not (filled held)) (not (inList profile (listIn (tunnelOn cards)))) (not (keysFit profile k)) (not (mkiAndSaltsFit k)) taken;
+      dtls = by-held held;
+      disconnect = λ taken. by-choice (DisconnectAnswer taken) (filled held) _ _ (λ _. inl refl) (λ _. inr (unknown taken));
+    }
 
 pub cards-by-steps : (cards : Cards) (octets : List ℕ) → isUp (tunnelOn cards) ≡ true → ReceivesBySteps octets (due cards (Call.tunnelOctets octets))
 unfolding due

@@ -1,25 +1,37 @@
 -- What Tunnel octets answers while the tunnel is up, said on the octets themselves: document 01, "Reading the front of a lent stretch", with refusal 4 tested before the body ("The record and its calls"). The numbers are the document's.
 use Prim.Native.Nat.{ℕ, _+_, _≤_, _<_}
 use mathlib.Core.Path.{_≡_}
+use mathlib.Core.Logic.{_⊎_}
 use mathlib.Core.List.{List}
 use lib.ListN.{length}
+use Rattle.octets.specs.declared.parts.Bounds.{Bounds}
 use Rattle.octets.specs.Number.{octetAt, number16At}
 use Rattle.message.specs.Taken.{OfVersion, OfOther, WholeAt, IsUnlisted}
 use Rattle.rules.specs.Answer as Answer
-use Rattle.rules.specs.Answer.{Answer, refused, moreNeeded, wrote, placed, ended, found, keysStored, delivery, removed}
+use Rattle.rules.specs.Answer.{Answer, refused, moreNeeded, keysStored, delivery, removed}
 
--- an answer to a message that is not of type 2: keys stored, a delivery, a record removed or one of the refusals 5 to 9; so many octets are taken each time
-abbrev pub Takes : (taken : ℕ) → Answer → Type 0
-Takes n (refused number taken) = (5 ≤ number) × (number ≤ 9) × (taken ≡ n)
-Takes n moreNeeded = ⊥
-Takes n (wrote octets) = ⊥
-Takes n (placed place) = ⊥
-Takes n ended = ⊥
-Takes n (found a) = ⊥
-Takes n (keysStored taken) = taken ≡ n
-Takes n (delivery endpoint dtls taken) = taken ≡ n
-Takes n (removed taken) = taken ≡ n
-Takes n (Answer.version number taken) = ⊥
+-- a refusal with a number between two, so many octets taken
+pub record RefusedWith (least most taken : ℕ) (answer : Answer) : Type 0 where
+  pub number : ℕ
+  pub from : least ≤ number
+  pub to : number ≤ most
+  pub told : answer ≡ refused number taken
+
+-- a delivery, so many octets taken
+pub record Delivered (taken : ℕ) (answer : Answer) : Type 0 where
+  pub endpoint : ℕ
+  pub dtls : Bounds
+  pub told : answer ≡ delivery endpoint dtls taken
+
+-- to a whole message of type 3, 4 and 5: a bad body is refusal 5, and the table's own refusals are 6 to 9 for keys and 6 for the others
+abbrev pub KeysAnswer : (taken : ℕ) → Answer → Type 0
+KeysAnswer taken answer = (answer ≡ keysStored taken) ⊎ RefusedWith 5 9 taken answer
+
+abbrev pub DtlsAnswer : (taken : ℕ) → Answer → Type 0
+DtlsAnswer taken answer = Delivered taken answer ⊎ RefusedWith 5 6 taken answer
+
+abbrev pub DisconnectAnswer : (taken : ℕ) → Answer → Type 0
+DisconnectAnswer taken answer = (answer ≡ removed taken) ⊎ RefusedWith 5 6 taken answer
 
 -- the steps of the reading, as the table's call takes them
 pub record ReceivesBySteps (octets : List ℕ) (answer : Answer) : Type 0 where
@@ -35,4 +47,6 @@ pub record ReceivesBySteps (octets : List ℕ) (answer : Answer) : Type 0 where
   -- 4: "the whole message is taken, refused or not"
   pub profiles : WholeAt octets → octetAt octets 0 ≡ 1 → answer ≡ refused 4 (3 + number16At octets 1)
   pub unlisted : WholeAt octets → IsUnlisted (octetAt octets 0) → answer ≡ refused 3 (3 + number16At octets 1)
-  pub listed : WholeAt octets → 3 ≤ octetAt octets 0 → octetAt octets 0 ≤ 5 → Takes (3 + number16At octets 1) answer
+  pub keys : WholeAt octets → octetAt octets 0 ≡ 3 → KeysAnswer (3 + number16At octets 1) answer
+  pub dtls : WholeAt octets → octetAt octets 0 ≡ 4 → DtlsAnswer (3 + number16At octets 1) answer
+  pub disconnect : WholeAt octets → octetAt octets 0 ≡ 5 → DisconnectAnswer (3 + number16At octets 1) answer
