@@ -18,3 +18,6 @@ pub mod EncodeLaws
 pub mod KeysBack
 pub mod ReadBack
 pub mod Stays
+pub mod BodyCases
+pub mod Taken
+pub mod ProfileTests

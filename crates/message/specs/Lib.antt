@@ -9,3 +9,5 @@ pub mod Write
 pub mod Steps
 pub mod Profiles
 pub mod Claims
+pub mod Taken
+pub mod ProfileTests

@@ -46,3 +46,6 @@ pub mod Claimed
 pub mod KeysMean
 pub mod Refused
 pub mod LookedUp
+pub mod Taken
+pub mod GoodLists
+pub mod SingleTests

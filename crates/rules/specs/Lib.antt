@@ -11,12 +11,14 @@ pub mod Index
 pub mod Verdict
 pub mod Answer
 pub mod Refusals
+pub mod SingleTests
 pub mod Table
 pub mod Unchanged
 pub mod View
 pub mod Cards
 pub mod CardAnswers
 pub mod Placed
+pub mod Taken
 pub mod Claim
 pub mod ViewSteps
 pub mod Lookup
