@@ -10,6 +10,7 @@ pub mod Reached
 pub mod ReadSays
 pub mod WriteBack
 pub mod FieldsMean
+pub mod PartsStand
 pub mod VersionBack
 pub mod WalkLaws
 pub mod WalkEnds

@@ -1,7 +1,11 @@
 -- Where the fields of a message stand in the lent octets, and the message that they make up: RFC 9185, sections 6.2 to 6.6.
 use Prim.Native.Nat.{ℕ, _+_}
 use mathlib.Core.List.{List}
+use mathlib.Core.Path.{_≡_}
+use lib.ListN.{length}
+use denote.Ref.{RefT, now}
 use Rattle.octets.specs.Bounds.{between, behind, nowhere, partIn}
+use Rattle.octets.specs.Lent.{StandsAt, PartIn}
 use Rattle.octets.specs.declared.parts.Bounds.{Bounds}
 use Rattle.message.specs.Limits.{width, header}
 use Rattle.message.specs.Message as Message
@@ -76,6 +80,26 @@ place p Field.ServerSalt = p .keys .«server_salt»
 -- a field of the message at the front of s, as a part of s
 unfoldable pub field : List ℕ → Field → List ℕ
 field s f = partIn s (place (places (reading s)) f)
+
+-- ---- the same as a part of the lent octets themselves
+
+-- r is that field of the message at the front of s
+abbrev pub FieldOf : (s : RefT (List ℕ)) → Field → (r : RefT (List ℕ)) → Type 0
+FieldOf s f r = PartIn s (place (places (reading (now s))) f) r
+
+-- the DTLS octets of a TunneledDtls stand after octet A + 5, and are as many as it says
+abbrev pub DtlsStands : (s dtls : RefT (List ℕ)) → Fields → Type 0
+DtlsStands s dtls (SupportedProfiles version n) = Unit {0}
+DtlsStands s dtls (UnsupportedVersion version) = Unit {0}
+DtlsStands s dtls (MediaKeys profile k) = Unit {0}
+DtlsStands s dtls (TunneledDtls n) = StandsAt s (header + width + 2) dtls × (length (now dtls) ≡ n)
+DtlsStands s dtls EndpointDisconnect = Unit {0}
+
+-- the body of any message that is read stands after octet 3
+abbrev pub Stand : (s body dtls : RefT (List ℕ)) → Answer → Type 0
+Stand s body dtls moreNeeded = Unit {0}
+Stand s body dtls (refused number taken) = Unit {0}
+Stand s body dtls (accepted f taken) = StandsAt s header body × DtlsStands s dtls f
 
 -- ---- what an answer means on its octets
 

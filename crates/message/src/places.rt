@@ -184,21 +184,21 @@ pub fn place_of(p: Places, field: Field) -> Bounds
 
 // A field of the message at the front of s, lent from s; empty where there is none.
 pub fn field_of(s: &[u8], field: Field) -> &[u8]
-    ensures { λ r. ⌜ now r ≡ Spec.field (now (s .entry)) field ⌝ }
+    ensures { λ r. ⌜ Spec.FieldOf (s .entry) field r ⌝ }
 {
     octets::part_in(s, place_of(places_of(read_message(s)), field))
 }
 
 // The body of the message at the front of s, after octet 3.
 pub fn body(s: &[u8]) -> &[u8]
-    ensures { λ r. ⌜ now r ≡ Spec.field (now (s .entry)) Field.Body ⌝ }
+    ensures { λ r. ⌜ Spec.FieldOf (s .entry) Field.Body r ⌝ }
 {
     field_of(s, Field::Body)
 }
 
 // The DTLS octets of a TunneledDtls at the front of s, after octet A + 5.
 pub fn dtls(s: &[u8]) -> &[u8]
-    ensures { λ r. ⌜ now r ≡ Spec.field (now (s .entry)) Field.Dtls ⌝ }
+    ensures { λ r. ⌜ Spec.FieldOf (s .entry) Field.Dtls r ⌝ }
 {
     field_of(s, Field::Dtls)
 }

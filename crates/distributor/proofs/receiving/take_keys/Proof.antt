@@ -31,14 +31,14 @@ returns : tie.Need-returns
 returns c =
     let a = c .before .before .before .before .before .before .before .before .before .before .before .before .before .before .before .args in
     let s = now (a .state) in
-    let v = told-allowed (Spec.keysVerdict s _ (a .profile) (a .lengths)) (Spec.placeOfIdentifier s _) (c .before .before .before .before .before .before .before .before .place .given .1) (c .before .before .before .before .before .before .before .before .before .before .check-keys .ensures ∙ ap (λ (i : List ℕ). checked (Spec.keysVerdict s i (a .profile) (a .lengths)) (Spec.placeOfIdentifier s i)) (c .before .before .before .before .before .before .before .before .before .before .before .before .part .ensures)) in
+    let v = told-allowed (Spec.keysVerdict s _ (a .profile) (a .lengths)) (Spec.placeOfIdentifier s _) (c .before .before .before .before .before .before .before .before .place .given .1) (c .before .before .before .before .before .before .before .before .before .before .check-keys .ensures ∙ ap (λ (i : List ℕ). checked (Spec.keysVerdict s i (a .profile) (a .lengths)) (Spec.placeOfIdentifier s i)) (c .before .before .before .before .before .before .before .before .before .before .before .before .part .ensures .octets)) in
     keyed s (now (a .s)) (a .taken) (a .profile) (a .lengths) _ (v .1) (v .0) _ (c .before .before .before .before .endpoint-of .ensures ∙ ap endpointOf (c .before .before .before .before .before .row-at .ensures)) (c .before .before .put-keys .ensures)
 
 returns-2 : tie.Need-returns-2
 returns-2 c =
     let a = c .before .before .before .before .before .before .before .before .args in
     let s = now (a .state) in
-    let v = told-refused (Spec.keysVerdict s _ (a .profile) (a .lengths)) (Spec.placeOfIdentifier s _) (c .before .number .given .1) (c .before .before .before .check-keys .ensures ∙ ap (λ (i : List ℕ). checked (Spec.keysVerdict s i (a .profile) (a .lengths)) (Spec.placeOfIdentifier s i)) (c .before .before .before .before .before .part .ensures)) in
+    let v = told-refused (Spec.keysVerdict s _ (a .profile) (a .lengths)) (Spec.placeOfIdentifier s _) (c .before .number .given .1) (c .before .before .before .check-keys .ensures ∙ ap (λ (i : List ℕ). checked (Spec.keysVerdict s i (a .profile) (a .lengths)) (Spec.placeOfIdentifier s i)) (c .before .before .before .before .before .part .ensures .octets)) in
     not-keyed s (now (a .s)) (a .taken) (a .profile) (a .lengths) _ v
 
 pub take-keys-spec : {M : Type 1} → statement M

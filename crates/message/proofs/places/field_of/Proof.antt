@@ -1,17 +1,14 @@
 use mathlib.Core.Path.{ap, _∙_}
-use denote.Ref.{now}
-use Rattle.octets.specs.Bounds.{partIn}
+use Rattle.octets.proofs.LentLaws.{same-bounds}
 use Rattle.message.specs.Parts as Spec
 use borrow.Author.Needs.{needs}
 use Rattle.message.proofs.places.field_of.Statement.{statement}
 use Rattle.message.proofs.places.field_of.Tie as tie
 
 returns : tie.Need-returns
-unfolding Spec.field
 returns c =
-    let a = c .before .before .before .before .before .args in
-    c .part-in .ensures
-    ∙ ap (partIn (now (a .s))) (c .before .place-of .ensures ∙ ap (λ p. Spec.place p (a .field)) (c .before .before .places-of .ensures ∙ ap Spec.places (c .before .before .before .read-message .ensures)))
+    same-bounds (c .part-in .ensures)
+    (c .before .place-of .ensures ∙ ap (λ p. Spec.place p (c .before .before .before .before .before .args .field)) (c .before .before .places-of .ensures ∙ ap Spec.places (c .before .before .before .read-message .ensures)))
 
 pub field-of-spec : {M : Type 1} → statement M
 field-of-spec =

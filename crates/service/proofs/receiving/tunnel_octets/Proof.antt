@@ -15,7 +15,7 @@ delivery-requires c κs =
     let a = c .before .before .before .before .before .before .before .before .args in
     let e = received (now (a .state)) (now (a .body)) _ (sym (ap receivedOf (c .before .before .before .endpoint2 .given .1)) ∙ c .before .before .before .before .before .tunnel-octets .ensures .0) in
     let f = delivery-fits (now (a .state)) (now (a .body)) _ _ _ e (c .before .before .before .before .before .before .before .before .pre) in
-    rw (c .part-in .ensures) f
+    rw (c .part-in .ensures .octets) f
 
 returns : tie.Need-returns
 unfolding answer step
@@ -45,7 +45,7 @@ returns-5 : tie.Need-returns-5
 unfolding answer step
 returns-5 c =
     let a = c .before .before .before .before .before .before .before .before .before .args in
-    call-served (Call.tunnelOctets (now (a .body))) (now (a .state)) _ (now (a .out)) _ (received (now (a .state)) (now (a .body)) _ (sym (ap receivedOf (c .before .before .before .before .endpoint2 .given .1)) ∙ c .before .before .before .before .before .before .tunnel-octets .ensures .0)) (c .before .before .before .before .before .before .tunnel-octets .ensures .1) (same-octets (now (a .out)) _ _ _ (c .before .part-in .ensures) (c .delivery .ensures))
+    call-served (Call.tunnelOctets (now (a .body))) (now (a .state)) _ (now (a .out)) _ (received (now (a .state)) (now (a .body)) _ (sym (ap receivedOf (c .before .before .before .before .endpoint2 .given .1)) ∙ c .before .before .before .before .before .before .tunnel-octets .ensures .0)) (c .before .before .before .before .before .before .tunnel-octets .ensures .1) (same-octets (now (a .out)) _ _ _ (c .before .part-in .ensures .octets) (c .delivery .ensures))
 
 returns-6 : tie.Need-returns-6
 unfolding answer step
