@@ -258,7 +258,7 @@ enum shawm_tag_field {
 /* The value of a number of a Full tag; 0 where there is none. */
 uint32_t shawm_tag_number(const uint8_t *packet, size_t n, uint32_t field);
 
-/* --------------------------------------------------------------- for comfort */
+/* ------------------------------------------------------- inline functions */
 
 /* A part of octets that you lent. Where there is none, at is NULL and n is 0; a
  * part that is there and empty has its place and n 0. */

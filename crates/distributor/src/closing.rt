@@ -7,7 +7,7 @@ use crate::check::refused;
 use crate::search::place_of_identifier;
 use crate::sending::Sent;
 use crate::storing::put_vacant;
-use message::limits::HEADER;
+use message::limits::DISCONNECT_LENGTH;
 use message::limits::WIDTH;
 use octets::refusal;
 ghost use mathlib.Core.Path.{_≡_};
@@ -31,7 +31,7 @@ fn check_close(state: &[u8], identifier: &[u8], room: usize) -> Check
     if PLACES <= place {
         return refused(refusal::NO_ASSOCIATION);
     }
-    if room < HEADER + WIDTH {
+    if room < DISCONNECT_LENGTH {
         return refused(refusal::NO_ROOM);
     }
     Check::Allowed { place }
@@ -46,7 +46,7 @@ pub fn close(state: &mut [u8; BLOCK], identifier: &[u8], out: &mut [u8]) -> Sent
             message::write_endpoint_disconnect(identifier, out);
             put_vacant(state, place);
             Sent::Written {
-                count: HEADER + WIDTH,
+                count: DISCONNECT_LENGTH,
             }
         }
         Check::Refused { number } => Sent::Refused { number },

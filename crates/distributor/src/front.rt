@@ -1,7 +1,9 @@
 // A whole TunneledDtls at the front of octets from the key distributor, as most are, told by a few tests.
+use message::limits::BEFORE_DTLS;
 use message::limits::BODY_LIMIT;
 use message::limits::HEADER;
 use message::limits::WIDTH;
+use message::types;
 ghost use mathlib.Core.Path.{_≡_};
 ghost use Prim.Native.Nat.{_+_};
 ghost use Rattle.message.specs.Limits.{header, width};
@@ -9,14 +11,12 @@ ghost use Rattle.message.specs.Read.{accepted};
 ghost use Rattle.message.specs.declared.bodies.Fields.the-variants.{TunneledDtls};
 ghost use Rattle.rules.specs.Refusals.{receiving};
 
-const TUNNELED_DTLS: u8 = 4;
-
 // How many DTLS octets it has. 0 says nothing: the octets are then read the long way.
 pub(crate) fn whole_dtls(s: &[u8]) -> u16
-    ensures { λ r. ⌜ ((r ≡ 0 → ⊥) → receiving (now (s .entry)) ≡ accepted (TunneledDtls r) (header + (width + 2 + r))) ⌝ }
+    ensures { λ r. ⌜ ((r ≡ 0 → ⊥) → receiving (now (s .entry)) ≡ accepted (TunneledDtls r) (header + width + 2 + r)) ⌝ }
 {
-    if HEADER + WIDTH + 2 < s.len() {
-        if octets::octet(s, 0) == TUNNELED_DTLS {
+    if BEFORE_DTLS < s.len() {
+        if octets::octet(s, 0) == types::TUNNELED_DTLS {
             let body_length = octets::number16(s, 1);
             let dtls_length = octets::number16(s, HEADER + WIDTH);
             let whole = HEADER + body_length as usize <= s.len();

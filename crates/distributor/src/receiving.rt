@@ -17,8 +17,8 @@ use message::Fields;
 use message::Frame;
 use message::KeyLengths;
 use message::Kind;
+use message::limits::BEFORE_DTLS;
 use message::limits::HEADER;
-use message::limits::WIDTH;
 use octets::Bounds;
 use octets::refusal;
 use rows::endpoint_of;
@@ -117,7 +117,7 @@ fn take_keys(
     requires { ⌜ length (now state) ≡ Layout.blockLength ⌝ }
     ensures { λ r. ⌜ (Out.receivedOf r ≡ some (Spec.fieldsAnswer (now (state .entry)) (now (s .entry)) (Fields.MediaKeys profile lengths) taken)) × (now (state .exit) ≡ Spec.fieldsNext (now (state .entry)) (now (s .entry)) (Fields.MediaKeys profile lengths)) ⌝ }
 {
-    let identifier = octets::part(s, HEADER, HEADER + WIDTH);
+    let identifier = message::identifier(s);
     match check_keys(state, identifier, profile, lengths) {
         Check::Allowed { place } => {
             let endpoint = endpoint_of(row_at(state, place));
@@ -133,15 +133,12 @@ fn deliver(state: &[u8], s: &[u8], dtls_length: u16, taken: usize) -> Received
     requires { ⌜ length (now state) ≡ Layout.blockLength ⌝ }
     ensures { λ r. ⌜ Out.receivedOf r ≡ some (Spec.fieldsAnswer (now (state .entry)) (now (s .entry)) (Fields.TunneledDtls «dtls_length») taken) ⌝ }
 {
-    let identifier = octets::part(s, HEADER, HEADER + WIDTH);
+    let identifier = message::identifier(s);
     let place = place_of_identifier(state, identifier);
     if place < PLACES {
         Received::Delivery {
             endpoint: endpoint_of(row_at(state, place)),
-            dtls: Bounds {
-                start: HEADER + WIDTH + 2,
-                end: HEADER + WIDTH + 2 + dtls_length as usize,
-            },
+            dtls: message::dtls_bounds(dtls_length),
             taken,
         }
     } else {
@@ -157,7 +154,7 @@ fn disconnect(state: &mut [u8], s: &[u8], taken: usize) -> Received
     requires { ⌜ length (now state) ≡ Layout.blockLength ⌝ }
     ensures { λ r. ⌜ (Out.receivedOf r ≡ some (Spec.fieldsAnswer (now (state .entry)) (now (s .entry)) Fields.EndpointDisconnect taken)) × (now (state .exit) ≡ Spec.fieldsNext (now (state .entry)) (now (s .entry)) Fields.EndpointDisconnect) ⌝ }
 {
-    let identifier = octets::part(s, HEADER, HEADER + WIDTH);
+    let identifier = message::identifier(s);
     let place = place_of_identifier(state, identifier);
     if place < PLACES {
         let endpoint = endpoint_of(row_at(state, place));
@@ -257,7 +254,7 @@ fn take_frame(state: &mut [u8], s: &[u8]) -> Received
 {
     let dtls_length = whole_dtls(s);
     if dtls_length != 0 {
-        let taken = HEADER + (WIDTH + 2 + dtls_length as usize);
+        let taken = BEFORE_DTLS + dtls_length as usize;
         return deliver(state, s, dtls_length, taken);
     }
     take_any(state, s)

@@ -9,9 +9,8 @@ use crate::lookup::is_served;
 use crate::lookup::place_of_endpoint;
 use demux::Kind;
 use demux::Sorted;
-use message::limits::BODY_LIMIT;
-use message::limits::HEADER;
-use message::limits::WIDTH;
+use message::limits::BEFORE_DTLS;
+use message::limits::DTLS_LIMIT;
 use octets::refusal;
 use rows::array16;
 use rows::layout::IDENTIFIER;
@@ -31,9 +30,6 @@ pub enum Sent {
     Refused { number: u8 },
     Written { count: usize },
 }
-
-// The longest packet that a tunnel message carries.
-const PACKET_LIMIT: usize = BODY_LIMIT as usize - (WIDTH + 2);
 
 fn is_not_dtls(packet: &[u8]) -> bool
     ensures { λ r. ⌜ r ≡ notDtls (now (packet .entry)) ⌝ }
@@ -56,8 +52,8 @@ fn packet_refusal(packet: &[u8], room: usize) -> u8
     if is_not_dtls(packet) {
         return refusal::NOT_DTLS;
     }
-    if packet.len() <= PACKET_LIMIT {
-        if HEADER + WIDTH + 2 + packet.len() <= room {
+    if packet.len() <= DTLS_LIMIT {
+        if BEFORE_DTLS + packet.len() <= room {
             return 0;
         }
         return refusal::NO_ROOM;
@@ -106,7 +102,7 @@ pub fn booth_packet(state: &[u8; BLOCK], endpoint: u32, packet: &[u8], out: &mut
             let identifier = array16(row_at(s, place), IDENTIFIER);
             message::write_tunneled_dtls(&identifier, packet, out);
             Sent::Written {
-                count: HEADER + WIDTH + 2 + packet.len(),
+                count: BEFORE_DTLS + packet.len(),
             }
         }
         Check::Refused { number } => Sent::Refused { number },

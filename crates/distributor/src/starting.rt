@@ -5,7 +5,7 @@ use crate::check::Check;
 use crate::check::refused;
 use crate::sending::Sent;
 use crate::storing::put_up;
-use message::limits::HEADER;
+use message::limits::BEFORE_LIST;
 use octets::refusal;
 ghost use mathlib.Core.Path.{_≡_};
 ghost use lib.ListN.{length};
@@ -22,7 +22,7 @@ fn check_start(state: &[u8], list: &[u8], room: usize) -> Check
     if !message::good_list(list) {
         return refused(refusal::BAD_PROFILE_LIST);
     }
-    if room < HEADER + 3 + list.len() {
+    if room < BEFORE_LIST + list.len() {
         return refused(refusal::NO_ROOM);
     }
     Check::Allowed { place: 0 }
@@ -37,7 +37,7 @@ pub fn start(state: &mut [u8; BLOCK], list: &[u8], out: &mut [u8]) -> Sent
             message::write_supported_profiles(0, list, out);
             put_up(state, list);
             Sent::Written {
-                count: HEADER + 3 + list.len(),
+                count: BEFORE_LIST + list.len(),
             }
         }
         Check::Refused { number } => Sent::Refused { number },

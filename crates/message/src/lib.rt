@@ -8,6 +8,7 @@ mod places;
 mod profiles;
 mod putting;
 mod reading;
+pub mod types;
 mod walking;
 mod writing;
 
@@ -27,7 +28,9 @@ pub use places::KeyPlaces;
 pub use places::Places;
 pub use places::body;
 pub use places::dtls;
+pub use places::dtls_bounds;
 pub use places::field_of;
+pub use places::identifier;
 pub use places::key_places;
 pub use places::place_of;
 pub use places::places_of;

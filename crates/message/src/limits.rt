@@ -9,6 +9,18 @@ pub const BODY_LIMIT: u16 = 4096;
 // What stands before a body: type 1, length 2.
 pub const HEADER: usize = 3;
 
+// What stands before the list of a SupportedProfiles: header, version 1, length 2.
+pub const BEFORE_LIST: usize = HEADER + 3;
+
+// What stands before the DTLS octets of a TunneledDtls: header, identifier, length 2.
+pub const BEFORE_DTLS: usize = HEADER + WIDTH + 2;
+
+// The longest DTLS packet.
+pub const DTLS_LIMIT: usize = BODY_LIMIT as usize - (WIDTH + 2);
+
+// A whole EndpointDisconnect.
+pub const DISCONNECT_LENGTH: usize = HEADER + WIDTH;
+
 // The longest field that one length octet can tell.
 pub const MOST_8: usize = 255;
 

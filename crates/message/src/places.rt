@@ -1,6 +1,8 @@
 // Where the fields of a message stand in the lent octets, and the fields as parts of them.
 use crate::bodies::Fields;
 use crate::bodies::KeyLengths;
+use crate::limits::BEFORE_DTLS;
+use crate::limits::BEFORE_LIST;
 use crate::limits::HEADER;
 use crate::limits::WIDTH;
 use crate::reading::Read;
@@ -11,6 +13,7 @@ ghost use mathlib.Core.Path.{_≡_};
 ghost use Rattle.message.specs.Read.{answerOf};
 ghost use Rattle.message.specs.Parts as Spec;
 ghost use Rattle.octets.specs.Bounds as B;
+ghost use Rattle.octets.specs.Lent.{PartIn};
 ghost use Rattle.message.specs.Limits.{header, most16};
 ghost use Prim.Native.Nat.{_+_, _≤_, _<_};
 
@@ -65,6 +68,13 @@ fn next(field: Bounds, n: u8) -> Bounds
     ensures { λ r. ⌜ r ≡ B.behind (field .end + 1) n ⌝ }
 {
     behind(field.end + 1, n as u16)
+}
+
+// Where the DTLS octets of a TunneledDtls stand that has so many.
+pub fn dtls_bounds(n: u16) -> Bounds
+    ensures { λ r. ⌜ r ≡ Spec.dtlsPlace n ⌝ }
+{
+    behind(BEFORE_DTLS, n)
 }
 
 // Where the key fields of a MediaKeys with these lengths stand.
@@ -136,7 +146,7 @@ fn field_places(fields: Fields, taken: usize) -> Places
             list_length,
         } => {
             p.identifier = behind(0, 0);
-            p.profile_list = behind(HEADER + 3, list_length);
+            p.profile_list = behind(BEFORE_LIST, list_length);
         }
         Fields::UnsupportedVersion { version: _ } => {
             p.identifier = behind(0, 0);
@@ -146,7 +156,7 @@ fn field_places(fields: Fields, taken: usize) -> Places
             profile: _,
             lengths,
         } => p.keys = key_places(lengths),
-        Fields::TunneledDtls { dtls_length } => p.dtls = behind(HEADER + WIDTH + 2, dtls_length),
+        Fields::TunneledDtls { dtls_length } => p.dtls = behind(BEFORE_DTLS, dtls_length),
         Fields::EndpointDisconnect => {}
     }
     p
@@ -187,6 +197,13 @@ pub fn field_of(s: &[u8], field: Field) -> &[u8]
     ensures { λ r. ⌜ Spec.FieldOf (s .entry) field r ⌝ }
 {
     octets::part_in(s, place_of(places_of(read_message(s)), field))
+}
+
+// The identifier that a MediaKeys, TunneledDtls or EndpointDisconnect at the front of s names.
+pub fn identifier(s: &[u8]) -> &[u8]
+    ensures { λ r. ⌜ PartIn (s .entry) Spec.identifierPlace r ⌝ }
+{
+    octets::part_in(s, IDENTIFIER)
 }
 
 // The body of the message at the front of s, after octet 3.

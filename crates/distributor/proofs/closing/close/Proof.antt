@@ -32,6 +32,5 @@ close-spec =
     put-vacant-requires
     (λ c. search needs)
     (λ c. search needs)
-    (λ c. search needs)
     returns
     returns-2)
