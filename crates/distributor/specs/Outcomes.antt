@@ -7,7 +7,7 @@ use mathlib.Core.Option.{Option, some, none}
 use lib.ListN.{length, drop}
 use lib.Dec.{eqb}
 use Rattle.rules.specs.Verdict.{Verdict, allowed, refusal}
-use Rattle.rules.specs.Refusals.{ofProfiles}
+use Rattle.rules.specs.Refusals.{isProfiles}
 use Rattle.rules.specs.Call.{Call}
 use Rattle.rules.specs.Table.{answer, step}
 use Rattle.rules.specs.Answer as Answer
@@ -18,6 +18,7 @@ use Rattle.distributor.specs.declared.opening.Opened.{Opened}
 use Rattle.distributor.specs.declared.sending.Sent.{Sent}
 use Rattle.distributor.specs.declared.receiving.Received.{Received}
 use Rattle.message.specs.Frame as Frame
+use Rattle.message.specs.Direction.{ofKinds}
 use Rattle.message.specs.Limits.{header}
 
 -- a call does what the rules say: what it returns and writes tells the answer, and the block is left as the step leaves it
@@ -89,4 +90,4 @@ receivedOf (Received.Version number taken) = some (version number taken)
 
 -- the octets of a whole SupportedProfiles, which is refusal 4; 0 where the octets hold none
 abbrev pub profilesIn : Frame.Framing → ℕ
-profilesIn f = ofProfiles f (λ n. header + n) 0
+profilesIn f = ofKinds isProfiles f (λ n. header + n) 0

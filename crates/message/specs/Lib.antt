@@ -4,6 +4,7 @@ pub mod Frame
 pub mod Walk
 pub mod Body
 pub mod Read
+pub mod Direction
 pub mod Parts
 pub mod Write
 pub mod Steps

@@ -10,6 +10,7 @@ use Rattle.message.specs.Message.{encode, tunneledDtls, endpointDisconnect}
 use Rattle.message.specs.Parts.{identifierPlace, dtlsPlace}
 use Rattle.message.specs.Profiles.{goodList, inList, keysFit, mkiAndSaltsFit}
 use Rattle.message.specs.Read as Read
+use Rattle.message.specs.Direction.{ofKinds}
 use Rattle.message.specs.declared.bodies.Fields.{Fields}
 use Rattle.message.specs.declared.bodies.Fields.the-variants.{SupportedProfiles, UnsupportedVersion, MediaKeys, TunneledDtls, EndpointDisconnect}
 use Rattle.rules.specs.Search.{keep}
@@ -18,7 +19,7 @@ use Rattle.rules.specs.Call as Call
 use Rattle.rules.specs.Verdict.{allowed, refuse}
 use Rattle.rules.specs.Answer as Answer
 use Rattle.rules.specs.Answer.{Answer, Association, refused, moreNeeded, wrote, placed, ended, found, keysStored, delivery, removed, version, answered}
-use Rattle.rules.specs.Refusals.{wrongWidth, noRoom, notDtls, tooLong, startMessage, ofProfiles}
+use Rattle.rules.specs.Refusals.{wrongWidth, noRoom, notDtls, tooLong, startMessage, isProfiles}
 use Rattle.rules.specs.Cards.{Held, blank, opened, keyed, Cards, filled, holding, endpointLive, allLive, next}
 
 -- every card keeps the tunnel, so any will do
@@ -107,7 +108,7 @@ readDue cards octets (Read.accepted f taken) = messageDue cards octets f taken
 
 -- by the reading rules, with refusal 4, for a whole message of type 1, tested before the body
 abbrev pub octetsDue : Cards → List ℕ → Frame.Framing → Answer
-octetsDue cards octets f = ofProfiles f (λ n. refused 4 (header + n)) (readDue cards octets (Read.frameAnswer octets f))
+octetsDue cards octets f = ofKinds isProfiles f (λ n. refused 4 (header + n)) (readDue cards octets (Read.frameAnswer octets f))
 
 unfoldable pub due : Cards → Call.Call → Answer
 due cards (Call.start list room) = startDue cards list room
