@@ -11,7 +11,7 @@ use Rattle.rules.specs.Refusals.{isProfiles}
 use Rattle.rules.specs.Call.{Call}
 use Rattle.rules.specs.Table.{answer, step}
 use Rattle.rules.specs.Answer as Answer
-use Rattle.rules.specs.Answer.{Answer, refused, moreNeeded, wrote, placed, ended, found, keysStored, delivery, removed, version}
+use Rattle.rules.specs.Answer.{Answer, refused, moreNeeded, wrote, placed, ended, keysStored, delivery, removed, version}
 use Rattle.distributor.specs.declared.check.Check.{Check}
 use Rattle.distributor.specs.declared.ending.Ended.{Ended}
 use Rattle.distributor.specs.declared.opening.Opened.{Opened}
@@ -38,44 +38,19 @@ abbrev pub openedOf : Opened → Answer
 openedOf (Opened.Refused number) = refused number 0
 openedOf (Opened.At place) = placed place
 
--- ---- calls that write: refused, or so many octets written
+-- ---- calls that write
 
-pub data Sending : Type 0 where
-  notSent : (number taken : ℕ) → Sending
-  sent : (count : ℕ) → Sending
+-- so many octets, those of the answer: they stand at the front of the output, and the octets behind are as they were
+pub record Wrote (a : Answer) (before after : List ℕ) (count : ℕ) : Type 0 where
+  pub octets : List ℕ
+  pub told : a ≡ wrote octets
+  pub counted : count ≡ length octets
+  pub written : after ≡ octets ++ drop (length octets) before
 
-abbrev pub sendingOf : Sent → Sending
-sendingOf (Sent.Refused number) = notSent number 0
-sendingOf (Sent.Written count) = sent count
-
--- an answer of such a call is a refusal or what was written; the others are not theirs
-abbrev pub sending : Answer → Sending
-sending (refused number taken) = notSent number taken
-sending moreNeeded = notSent 0 0
-sending (wrote octets) = sent (length octets)
-sending (placed place) = notSent 0 0
-sending ended = notSent 0 0
-sending (found a) = notSent 0 0
-sending (keysStored endpoint taken) = notSent 0 0
-sending (delivery endpoint dtls taken) = notSent 0 0
-sending (removed endpoint taken) = notSent 0 0
-sending (version number taken) = notSent 0 0
-
--- the output afterwards: what was written at its front, and the octets behind as they were; or every octet as it was
-abbrev pub outputBy : Answer → List ℕ → List ℕ
-outputBy (refused number taken) out = out
-outputBy moreNeeded out = out
-outputBy (wrote octets) out = octets ++ drop (length octets) out
-outputBy (placed place) out = out
-outputBy ended out = out
-outputBy (found a) out = out
-outputBy (keysStored endpoint taken) out = out
-outputBy (delivery endpoint dtls taken) out = out
-outputBy (removed endpoint taken) out = out
-outputBy (version number taken) out = out
-
+-- a refusal takes no octet and leaves every octet of the output as it was
 abbrev pub Sends : Answer → (before after : List ℕ) → Sent → Type 0
-Sends a before after r = (sendingOf r ≡ sending a) × (after ≡ outputBy a before)
+Sends a before after (Sent.Refused number) = (a ≡ refused number 0) × (after ≡ before)
+Sends a before after (Sent.Written count) = Wrote a before after count
 
 -- ---- Tunnel octets; refusal 5 has a case of its own, and the other case of a refusal stands for no answer with that number
 

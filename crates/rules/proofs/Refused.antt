@@ -14,7 +14,7 @@ use Rattle.message.specs.declared.bodies.Fields.the-variants.{SupportedProfiles
 use Rattle.rules.specs.Call as Call
 use Rattle.rules.specs.Layout.{up, rowOf, endpointOf, downBlock, upBlock}
 use Rattle.rules.specs.Verdict.{Verdict, allowed, refusal, after}
-use Rattle.rules.specs.Answer.{Answer, refused, moreNeeded, wrote, placed, ended, found, keysStored, delivery, removed, version, answered}
+use Rattle.rules.specs.Answer.{Answer, refused, wrote, placed, ended, found, keysStored, delivery, removed, byAnswer, answered}
 use Rattle.rules.specs.Refusals.{wrongWidth, noRoom, notDtls, tooLong, startMessage, receiving}
 use Rattle.rules.specs.Table as Table
 use Rattle.rules.specs.Table.{answer, step, knows, serves, hasRoom, without, packetMessage}
@@ -23,16 +23,7 @@ use Rattle.rules.proofs.VerdictLaws.{Avoids, avoids, keys-avoid}
 
 -- the block after a call, by its answer: of a refusal and of "more needed" it is settled
 abbrev leaves : Answer → (old new : List ℕ) → List ℕ
-leaves (refused number taken) old new = cond (eqb number 2) downBlock old
-leaves moreNeeded old new = old
-leaves (wrote octets) old new = new
-leaves (placed place) old new = new
-leaves ended old new = new
-leaves (found a) old new = new
-leaves (keysStored endpoint taken) old new = new
-leaves (delivery endpoint dtls taken) old new = new
-leaves (removed endpoint taken) old new = new
-leaves (version number taken) old new = new
+leaves a old new = byAnswer (λ number taken. cond (eqb number 2) downBlock old) old (λ place. new) (λ endpoint dtls taken. new) (λ taken. new) a
 
 module _ (s : List ℕ) where
   by-verdict : (v : Verdict) → Avoids 2 v → (taken : ℕ) (a : Answer) (new : List ℕ) → leaves a s new ≡ new

@@ -16,7 +16,7 @@ use Rattle.rules.specs.Search.{keep, Distinct}
 use Rattle.rules.specs.Tunnel.{isUp}
 use Rattle.rules.specs.Call as Call
 use Rattle.rules.specs.Answer as Answer
-use Rattle.rules.specs.Answer.{Answer, Association, refused, moreNeeded, wrote, placed, ended, found, keysStored, delivery, removed, version}
+use Rattle.rules.specs.Answer.{Answer, Association, refused, moreNeeded, placed, delivery, byAnswer, ofDelivery}
 use Rattle.rules.specs.Layout.{downBlock}
 use Rattle.rules.specs.Table.{run, answer, answers, step}
 use Rattle.rules.specs.View.{Slot, View, view, isFor, identifierIn, endpointIn}
@@ -51,16 +51,7 @@ heldOn (keyed endpoint k) = keyed endpoint k ∷ []
 
 -- an answer, its place number apart
 abbrev pub apart : Answer → Answer
-apart (refused number taken) = refused number taken
-apart moreNeeded = moreNeeded
-apart (wrote octets) = wrote octets
-apart (placed place) = placed 0
-apart ended = ended
-apart (found a) = found a
-apart (keysStored endpoint taken) = keysStored endpoint taken
-apart (delivery endpoint dtls taken) = delivery endpoint dtls taken
-apart (removed endpoint taken) = removed endpoint taken
-apart (version number taken) = version number taken
+apart a = byAnswer refused moreNeeded (λ place. placed 0) delivery (λ taken. a) a
 
 -- what a call hands out: DTLS octets with an endpoint, or nothing
 pub data Handed : Type 0 where
@@ -69,16 +60,7 @@ pub data Handed : Type 0 where
 
 -- by its answer, of the octets that were lent
 abbrev pub handedBy : List ℕ → Answer → Handed
-handedBy octets (refused number taken) = nothing
-handedBy octets moreNeeded = nothing
-handedBy octets (wrote written) = nothing
-handedBy octets (placed place) = nothing
-handedBy octets ended = nothing
-handedBy octets (found a) = nothing
-handedBy octets (keysStored endpoint taken) = nothing
-handedBy octets (delivery endpoint dtls taken) = handed endpoint (partIn octets dtls)
-handedBy octets (removed endpoint taken) = nothing
-handedBy octets (version number taken) = nothing
+handedBy octets a = ofDelivery a (λ endpoint dtls taken. handed endpoint (partIn octets dtls)) nothing
 
 unfoldable pub handout : List ℕ → Call.Call → Handed
 handout s (Call.start list room) = nothing

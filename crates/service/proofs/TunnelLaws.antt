@@ -1,4 +1,4 @@
--- What Tunnel octets answers: never what only other calls answer, and a delivery that fits a frame.
+-- What Tunnel octets answers: a delivery fits a frame.
 use Prim.Native.Nat.{ℕ, _+_, _-_, _≤_}
 use mathlib.Core.Path.{_≡_, refl, sym, subst}
 use mathlib.Core.Bool.{Bool, true, false, cond}
@@ -17,7 +17,7 @@ use Rattle.message.specs.Parts.{identifierPlace, dtlsPlace}
 use Rattle.message.specs.Read as Read
 use Rattle.message.specs.declared.bodies.Fields.{Fields}
 use Rattle.message.specs.declared.bodies.Fields.the-variants.{SupportedProfiles, UnsupportedVersion, MediaKeys, TunneledDtls, EndpointDisconnect}
-use Rattle.rules.specs.Answer.{Answer, refused, moreNeeded, wrote, placed, ended, found, keysStored, delivery, removed, version, answered}
+use Rattle.rules.specs.Answer.{Answer, refused, keysStored, delivery, removed, ofDelivery, answered}
 use Rattle.rules.specs.Layout.{up, octetsOf32}
 use Rattle.distributor.specs.Outcomes.{receivedOf}
 use Rattle.rules.specs.Refusals.{receiving}
@@ -27,18 +27,9 @@ use Rattle.distributor.specs.declared.receiving.Received.{Received}
 use Rattle.service.specs.Limits.{room, answerLimit}
 use Rattle.service.specs.Reply.{Replies, frameOf}
 
--- an answer of Tunnel octets; a delivery's octets stand behind the identifier and the length
+-- where Tunnel octets answers a delivery, its octets stand behind the identifier and the length
 abbrev OfTunnel : Answer → Type 0
-OfTunnel (refused number taken) = Unit {0}
-OfTunnel moreNeeded = Unit {0}
-OfTunnel (wrote octets) = ⊥
-OfTunnel (placed place) = ⊥
-OfTunnel ended = ⊥
-OfTunnel (found a) = ⊥
-OfTunnel (keysStored endpoint taken) = Unit {0}
-OfTunnel (delivery endpoint dtls taken) = dtls .start ≡ header + width + 2
-OfTunnel (removed endpoint taken) = Unit {0}
-OfTunnel (version number taken) = Unit {0}
+OfTunnel a = ofDelivery a (λ endpoint dtls taken. dtls .start ≡ header + width + 2) (Unit {0})
 
 of-verdict : (w : Verdict) (endpoint taken : ℕ) → OfTunnel (answered w taken (keysStored endpoint taken))
 of-verdict allowed endpoint taken = tt
