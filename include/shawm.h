@@ -19,7 +19,7 @@
  *   out_n) must not overlap with any other stretch of the same call.
  *
  *   Nothing is kept between calls: no memory is taken, there is nothing to set up
- *   or to free, and any number of threads may call at once. A place that is
+ *   or to free, and any number of threads may call at once. An offset that is
  *   handed back is an index into the octets that you lent, good for as long as
  *   you leave them there unchanged.
  *
@@ -36,8 +36,8 @@
  *       if (shawm_is_refusal(answer))
  *           log_it(shawm_refusal_number(answer));
  *
- *   The other functions (start, length, number, taken) give a place, a length or a
- *   number, and 0 where there is none.
+ *   The other functions (start, length, number, taken) give an offset, a length or
+ *   a number, and 0 where there is none.
  *
  * Link with -lshawm. x86-64 only.
  */
@@ -176,7 +176,7 @@ enum shawm_field {
 
 /* Where a field of an accepted message stands: octets[start] is its first octet,
  * and it has length octets. A field that is there and empty, which only an MKI can
- * be, has its place and length 0. Both are 0 where the reading has no such field:
+ * be, has its offset and length 0. Both are 0 where the reading has no such field:
  * more needed, refused, another type, a number that is not in the list above. A
  * field that is there never starts at 0. */
 size_t shawm_field_start(const uint8_t *octets, size_t n, uint32_t field);
@@ -261,7 +261,7 @@ uint32_t shawm_tag_number(const uint8_t *packet, size_t n, uint32_t field);
 /* ------------------------------------------------------- inline functions */
 
 /* A part of octets that you lent. Where there is none, at is NULL and n is 0; a
- * part that is there and empty has its place and n 0. */
+ * part that is there and empty has its address and n 0. */
 struct shawm_part {
     const uint8_t *at;
     size_t n;

@@ -8,7 +8,7 @@ use native.Mathlib.Omega.{arith}
 use borrow.Author.Tests.{lt-ltb, le-ltb}
 use lib.Dec.{ltb, eqb}
 use Rattle.octets.specs.Bounds.{partIn}
-use Rattle.message.specs.Parts.{identifierPlace, dtlsPlace}
+use Rattle.message.specs.Parts.{identifierBounds, dtlsBounds}
 use Rattle.message.specs.Frame as Frame
 use Rattle.message.specs.Read as Read
 use Rattle.message.specs.declared.framing.Kind.{Kind}
@@ -85,21 +85,21 @@ module _ (s octets : List ℕ) where
 
 -- ---- by the place of the identifier
 
-module _ (s octets : List ℕ) (taken place : ℕ) (p : place ≡ placeOfIdentifier s (partIn octets identifierPlace)) where
-  there : place < places → knows s (partIn octets identifierPlace) ≡ true
+module _ (s octets : List ℕ) (taken place : ℕ) (p : place ≡ placeOfIdentifier s (partIn octets identifierBounds)) where
+  there : place < places → knows s (partIn octets identifierBounds) ≡ true
   there h = ap (λ (n : ℕ). ltb n places) (sym p) ∙ lt-ltb place places h
 
-  not-there : places ≤ place → knows s (partIn octets identifierPlace) ≡ false
+  not-there : places ≤ place → knows s (partIn octets identifierBounds) ≡ false
   not-there h = ap (λ (n : ℕ). ltb n places) (sym p) ∙ le-ltb place places h
 
-  at-place : endpointOf (rowOf s place) ≡ endpointFor s (partIn octets identifierPlace)
+  at-place : endpointOf (rowOf s place) ≡ endpointFor s (partIn octets identifierBounds)
   at-place = ap (λ (x : ℕ). endpointOf (rowOf s x)) p
 
   pub delivered : (n endpoint : ℕ) → place < places → endpoint ≡ endpointOf (rowOf s place)
-      → some (delivery endpoint (dtlsPlace n) taken) ≡ some (fieldsAnswer s octets (TunneledDtls n) taken)
+      → some (delivery endpoint (dtlsBounds n) taken) ≡ some (fieldsAnswer s octets (TunneledDtls n) taken)
   unfolding fieldsAnswer
   delivered n endpoint h e =
-      rw (there h) (ap (λ (x : ℕ). some (delivery x (dtlsPlace n) taken)) (e ∙ at-place))
+      rw (there h) (ap (λ (x : ℕ). some (delivery x (dtlsBounds n) taken)) (e ∙ at-place))
 
   pub not-delivered : (n : ℕ) → places ≤ place → some (refused 6 taken) ≡ some (fieldsAnswer s octets (TunneledDtls n) taken)
   unfolding fieldsAnswer
@@ -118,8 +118,8 @@ module _ (s octets : List ℕ) (taken place : ℕ) (p : place ≡ placeOfIdentif
 -- ---- keys, by their verdict
 
 module _ (s octets : List ℕ) (taken profile : ℕ) (k : KeyLengths) where
-  pub keyed : (place : ℕ) → place ≡ placeOfIdentifier s (partIn octets identifierPlace)
-      → allowed ≡ keysVerdict s (partIn octets identifierPlace) profile k
+  pub keyed : (place : ℕ) → place ≡ placeOfIdentifier s (partIn octets identifierBounds)
+      → allowed ≡ keysVerdict s (partIn octets identifierBounds) profile k
       → (endpoint : ℕ) → endpoint ≡ endpointOf (rowOf s place)
       → {next : List ℕ} → next ≡ withRow s place (keyedRow (keysIn octets profile k) (rowOf s place))
       → Fielded s octets taken (MediaKeys profile k) (some (keysStored endpoint taken)) next
@@ -127,9 +127,9 @@ module _ (s octets : List ℕ) (taken profile : ℕ) (k : KeyLengths) where
   keyed place p v endpoint n e =
       rw (← v) (ap (λ (x : ℕ). some (keysStored x taken)) (n ∙ ap (λ (x : ℕ). endpointOf (rowOf s x)) p), e ∙ ap (λ (x : ℕ). withRow s x (keyedRow (keysIn octets profile k) (rowOf s x))) p)
 
-  pub not-keyed : (number : ℕ) → refusal number ≡ keysVerdict s (partIn octets identifierPlace) profile k
+  pub not-keyed : (number : ℕ) → refusal number ≡ keysVerdict s (partIn octets identifierBounds) profile k
       → Fielded s octets taken (MediaKeys profile k) (receivedOf (Received.Refused number taken)) s
   unfolding fieldsAnswer fieldsNext
   not-keyed number v =
-      let five : eqb number 5 ≡ false = rw (← v) at (keys-avoid 5 refl refl refl refl s (partIn octets identifierPlace) profile k) in
+      let five : eqb number 5 ≡ false = rw (← v) at (keys-avoid 5 refl refl refl refl s (partIn octets identifierBounds) profile k) in
       rw (← v, five) (refl, refl)

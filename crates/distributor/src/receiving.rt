@@ -7,11 +7,11 @@ use crate::block::is_up;
 use crate::block::row_at;
 use crate::check::Check;
 use crate::check::refused;
-use crate::front::whole_dtls;
 use crate::search::place_of_identifier;
 use crate::storing::put_down;
 use crate::storing::put_keys;
 use crate::storing::put_vacant;
+use crate::tunneled::whole_dtls;
 use message::Body;
 use message::Fields;
 use message::Frame;
@@ -222,7 +222,7 @@ fn take_whole(state: &mut [u8], s: &[u8], kind: Kind, body_length: u16) -> Recei
 }
 
 // What the front of the octets holds, with the tunnel up: the long way.
-fn take_any(state: &mut [u8], s: &[u8]) -> Received
+fn receive_long(state: &mut [u8], s: &[u8]) -> Received
     requires { ⌜ length (now state) ≡ Layout.blockLength ⌝ }
     ensures { λ r. ⌜ (Out.receivedOf r ≡ some (Spec.readAnswer (now (state .entry)) (now (s .entry)) (receiving (now (s .entry))))) × (now (state .exit) ≡ Spec.readNext (now (state .entry)) (now (s .entry)) (receiving (now (s .entry)))) ⌝ }
 {
@@ -248,7 +248,7 @@ fn take_any(state: &mut [u8], s: &[u8]) -> Received
 }
 
 // A whole TunneledDtls takes the short way: it is what comes most.
-fn take_frame(state: &mut [u8], s: &[u8]) -> Received
+fn receive(state: &mut [u8], s: &[u8]) -> Received
     requires { ⌜ length (now state) ≡ Layout.blockLength ⌝ }
     ensures { λ r. ⌜ (Out.receivedOf r ≡ some (Spec.readAnswer (now (state .entry)) (now (s .entry)) (receiving (now (s .entry))))) × (now (state .exit) ≡ Spec.readNext (now (state .entry)) (now (s .entry)) (receiving (now (s .entry)))) ⌝ }
 {
@@ -257,7 +257,7 @@ fn take_frame(state: &mut [u8], s: &[u8]) -> Received
         let taken = BEFORE_DTLS + dtls_length as usize;
         return deliver(state, s, dtls_length, taken);
     }
-    take_any(state, s)
+    receive_long(state, s)
 }
 
 // Octets from the key distributor: 1, then the reading; type 3: 6, 7, 8, 9; types 4 and 5: 6.
@@ -265,7 +265,7 @@ pub fn tunnel_octets(state: &mut [u8; BLOCK], s: &[u8]) -> Received
     ensures { λ r. ⌜ Out.Does (Call.tunnelOctets (now (s .entry))) (now (state .entry)) (now (state .exit)) (λ a. Out.receivedOf r ≡ some a) ⌝ }
 {
     if is_up(state) {
-        take_frame(state, s)
+        receive(state, s)
     } else {
         Received::Refused {
             number: refusal::TUNNEL_DOWN,

@@ -37,7 +37,7 @@ nowhere-empty : (p : List ℕ) → part p 0 0 ≡ []
 unfolding part
 nowhere-empty p = refl
 
--- the front is what stands before a place
+-- the front is what stands before an offset
 front-at : (f q : List ℕ) → part (f ++ q) 0 (length f) ≡ f
 front-at f q = part-behind [] f q 0 (length f) refl (omega arith)
 

@@ -15,11 +15,11 @@ use Rattle.message.specs.Frame as Frame
 use Rattle.message.specs.Walk.{begin, fixed, field16, complete}
 use Rattle.message.specs.Body as Body
 use Rattle.message.specs.Read.{Answer, bodyAnswer, frameAnswer, reading}
-use Rattle.message.specs.Parts.{fieldPlaces, places, place, field, FieldOf, DtlsStands, Stand}
+use Rattle.message.specs.Parts.{fieldBounds, boundsOf, boundsFor, field, FieldOf, DtlsStands, Stand}
 use Rattle.message.specs.declared.framing.Kind.{Kind}
 use Rattle.message.specs.declared.bodies.Fields.{Fields}
 use Rattle.message.specs.declared.bodies.Fields.the-variants.{SupportedProfiles, UnsupportedVersion, MediaKeys, TunneledDtls, EndpointDisconnect}
-use Rattle.message.specs.declared.places.Field.{Field}
+use Rattle.message.specs.declared.bounds.Field.{Field}
 use Rattle.message.specs.declared.walking.Walk.{Walk}
 use Rattle.message.proofs.FrameSays.{Whole, whole-type, FrameSays, frame-says}
 use Rattle.message.proofs.WalkSays.{past-says, complete-says}
@@ -27,9 +27,9 @@ use Rattle.message.proofs.Encoded.{bodyOf, body-length}
 
 module _ (s b d : RefT (List ℕ)) where
   abbrev StandBy : Answer → Type 0
-  StandBy a = PartIn s (place (places a) Field.Body) b → PartIn s (place (places a) Field.Dtls) d → Stand s b d a
+  StandBy a = PartIn s (boundsFor (boundsOf a) Field.Body) b → PartIn s (boundsFor (boundsOf a) Field.Dtls) d → Stand s b d a
 
-  body-stands : (f : Fields) (n : ℕ) → header + n ≤ length (now s) → PartIn s (fieldPlaces f (header + n) .body) b → StandsAt s header b
+  body-stands : (f : Fields) (n : ℕ) → header + n ≤ length (now s) → PartIn s (fieldBounds f (header + n) .body) b → StandsAt s header b
   body-stands (SupportedProfiles version k) n h p = within-stands p (omega arith) (omega arith)
   body-stands (UnsupportedVersion version) n h p = within-stands p (omega arith) (omega arith)
   body-stands (MediaKeys profile k) n h p = within-stands p (omega arith) (omega arith)
@@ -41,7 +41,7 @@ module _ (s b d : RefT (List ℕ)) where
     body = bodyOf (now s) n
 
     -- a body that the walk w ends, read as f
-    ended : (w : Walk) (f : Fields) → (complete body w ≡ true → PartIn s (fieldPlaces f (header + n) .dtls) d → DtlsStands s d f)
+    ended : (w : Walk) (f : Fields) → (complete body w ≡ true → PartIn s (fieldBounds f (header + n) .dtls) d → DtlsStands s d f)
         → StandBy (bodyAnswer (header + n) (Body.ending body w f))
     ended w f dtls =
         by-choice (λ c. StandBy (bodyAnswer (header + n) c)) (complete body w) _ _

@@ -16,7 +16,7 @@ use Rattle.message.specs.Limits.{mkiLimit, saltLimit}
 use Rattle.message.specs.Profiles as Profiles
 use Rattle.message.specs.Profiles.{keyLength, entries, member}
 use Rattle.message.specs.Read.{accepted, reading}
-use Rattle.message.specs.Parts.{identifierPlace, keyPlaces, meaning}
+use Rattle.message.specs.Parts.{identifierBounds, keyBounds, meaning}
 use Rattle.message.specs.Claims.{WritesBack}
 use Rattle.message.specs.ProfileTests.{EntryOf, KeysOf, ProfileTests}
 use Rattle.message.specs.declared.bodies.Fields.the-variants.{MediaKeys}
@@ -104,8 +104,8 @@ key-read : (s : List ℕ) → Octets s → (profile : ℕ) (k : KeyLengths) (tak
 unfolding meaning
 key-read s o profile k taken e =
     let back : WritesBack s (MediaKeys profile k) taken = rw e at (reading-says s o) in
-    let p = keyPlaces k in
-    let fit = keys-written (partIn s identifierPlace) profile (partIn s (p .mki)) (partIn s (p .«client_key»)) (partIn s (p .«server_key»))
+    let p = keyBounds k in
+    let fit = keys-written (partIn s identifierBounds) profile (partIn s (p .mki)) (partIn s (p .«client_key»)) (partIn s (p .«server_key»))
     (partIn s (p .«client_salt»)) (partIn s (p .«server_salt»)) taken (back .verdict taken (omega arith)) in
     omega (arith, fit .clientKey, part-most s (p .«client_key» .start) (k .«client_key»))
 

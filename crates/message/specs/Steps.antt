@@ -1,4 +1,4 @@
--- What the steps of writing promise: a piece at a place, and the verdict on a message by the lengths of its fields.
+-- What the steps of writing promise: a piece at an offset, and the verdict on a message by the lengths of its fields.
 use Prim.Native.Nat.{ℕ, _+_, _≤_}
 use mathlib.Core.Path.{_≡_}
 use mathlib.Core.Bool.{Bool, cond, not, _&&_}
@@ -10,7 +10,7 @@ use Rattle.octets.specs.Write.{put, putEnd}
 use Rattle.message.specs.Limits.{width, header, most8}
 use Rattle.message.specs.Write.{Verdict, refused, written, fitting}
 
--- where there is room for a piece it is written, and the answer is the place behind it
+-- where there is room for a piece it is written, and the answer is the offset behind it
 abbrev pub Puts : (before : List ℕ) (at : ℕ) (piece : List ℕ) (r : ℕ) (after : List ℕ) → Type 0
 Puts before at piece r after = at + length piece ≤ length before → (r ≡ putEnd before at piece) × (after ≡ put before at piece)
 

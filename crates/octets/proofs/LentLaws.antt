@@ -41,7 +41,7 @@ module _ {s r : RefT (List ℕ)} {from to : ℕ} where
     start = p .stands .start ∙ ap (λ (n : ℕ). ptr s .1 + n) (start-within (now s) from to h k);
   }
 
-  -- every part but an empty one starts at the place that was asked for
+  -- every part but an empty one starts at the offset that was asked for
   pub some-stands : PartOf s from to r → 0 < length (now r) → StandsAt s from r
   unfolding part
   some-stands p h =

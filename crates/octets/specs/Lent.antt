@@ -6,12 +6,12 @@ use denote.Ref.{RefT, ptr, now}
 use Rattle.octets.specs.Part.{part, partStart}
 use Rattle.octets.specs.declared.parts.Bounds.{Bounds}
 
--- r lies in the block of memory that s lies in, from a place of s on
+-- r lies in the block of memory that s lies in, from an offset of s on
 pub record StandsAt (s : RefT (List ℕ)) (at : ℕ) (r : RefT (List ℕ)) : Type 0 where
   pub block : ptr r .0 ≡ ptr s .0
   pub start : ptr r .1 ≡ ptr s .1 + at
 
--- r is the part of s from one place up to another, and no copy of it
+-- r is the part of s from one offset up to another, and no copy of it
 pub record PartOf (s : RefT (List ℕ)) (from to : ℕ) (r : RefT (List ℕ)) : Type 0 where
   pub octets : now r ≡ part (now s) from to
   pub stands : StandsAt s (partStart (now s) from to) r

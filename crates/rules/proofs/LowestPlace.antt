@@ -16,7 +16,7 @@ use Rattle.rules.specs.Verdict.{Verdict, allowed, refusal}
 use Rattle.rules.specs.Answer.{Association, opened, placed, answered}
 use Rattle.rules.specs.Refusals.{wrongWidth}
 use Rattle.rules.specs.Table.{step}
-use Rattle.rules.specs.View.{Slot, View, view, isFor}
+use Rattle.rules.specs.View.{AtPlace, View, view, isFor}
 use Rattle.rules.specs.ViewSteps.{isVacant, isServing, has, isDown, openVerdict, viewAnswer, viewStep}
 use Rattle.rules.specs.Placed.{Placed, Opening, Openings}
 use Rattle.rules.proofs.Choices.{no-both, by-test}
@@ -36,11 +36,11 @@ before-first p d (x ∷ l) (suc n) h =
     (by-test (λ b. suc n < cond b zero (suc (first p l)) → n < first p l) (p x) (λ e k. absurd (not-suc-le-zero k)) (λ e k. le-of-suc-le-suc k) h)
 
 -- what stands at a place, by the test of it
-free : (x : Slot) → isVacant x ≡ true → x ≡ none
+free : (x : AtPlace) → isVacant x ≡ true → x ≡ none
 free none h = refl
 free (some a) h = absurd (false-true h)
 
-taken : (x : Slot) → isVacant x ≡ false → (a : Association) × (x ≡ some a)
+taken : (x : AtPlace) → isVacant x ≡ false → (a : Association) × (x ≡ some a)
 taken none h = no-both refl h
 taken (some a) h = (a, refl)
 
@@ -54,7 +54,7 @@ open-room v i e h =
     not-false _ (passed (not (has isVacant v)) _ _ (p12 .1) .0)
 
 -- an association stored at the first place that is vacant
-stored : (table : List Slot) (i : List ℕ) (e : ℕ) → first isVacant table < length table
+stored : (table : List AtPlace) (i : List ℕ) (e : ℕ) → first isVacant table < length table
     → Placed table (set table (first isVacant table) (some (opened i e))) (first isVacant table) i e
 stored table i e h = record {
   within = h;

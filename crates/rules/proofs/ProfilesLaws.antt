@@ -16,7 +16,7 @@ use Rattle.message.specs.declared.bodies.Fields.the-variants.{SupportedProfiles
 use Rattle.rules.specs.Refusals.{isProfiles, receiving}
 use Rattle.rules.specs.Answer.{refused}
 use Rattle.rules.specs.Cards.{Card, Cards, readCard}
-use Rattle.rules.specs.CardAnswers.{readDue, octetsDue}
+use Rattle.rules.specs.CardAnswers.{readExpected, octetsExpected}
 use Rattle.rules.specs.Claim.{nothing, handedRead}
 
 -- by whether a whole message of type 1 is at the front
@@ -74,6 +74,6 @@ module _ (cards : Cards) (octets : List ℕ) where
       (λ n e. rw e (profiles-handed n)) refl
 
   -- what is answered
-  pub due-reads : readDue cards octets (receiving octets) ≡ octetsDue cards octets (Frame.frame octets)
+  pub expected-reads : readExpected cards octets (receiving octets) ≡ octetsExpected cards octets (Frame.frame octets)
   unfolding receiving
-  due-reads = of-profiles (readDue cards octets) (Frame.frame octets) _ _
+  expected-reads = of-profiles (readExpected cards octets) (Frame.frame octets) _ _

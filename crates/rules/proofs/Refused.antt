@@ -6,7 +6,7 @@ use mathlib.Core.List.{List}
 use lib.Dec.{eqb}
 use Rattle.octets.specs.Bounds.{partIn}
 use Rattle.message.specs.Message.{encode, endpointDisconnect}
-use Rattle.message.specs.Parts.{identifierPlace, dtlsPlace}
+use Rattle.message.specs.Parts.{identifierBounds, dtlsBounds}
 use Rattle.message.specs.Profiles.{goodList}
 use Rattle.message.specs.Read as Read
 use Rattle.message.specs.declared.bodies.Fields.{Fields}
@@ -55,10 +55,10 @@ module _ (s : List ℕ) where
   by-fields octets (SupportedProfiles v n) taken = refl
   by-fields octets (UnsupportedVersion v) taken = refl
   by-fields octets (MediaKeys profile k) taken =
-      let i = partIn octets identifierPlace in
+      let i = partIn octets identifierBounds in
       by-verdict (Table.keysVerdict s i profile k) (keys-avoid 2 refl refl refl refl s i profile k) taken (keysStored (Table.endpointFor s i) taken) (Table.rekeyed s i octets profile k) refl
-  by-fields octets (TunneledDtls n) taken = by-endpoint (knows s (partIn octets identifierPlace)) taken (delivery (endpointOf (rowOf s (Table.placeOfIdentifier s (partIn octets identifierPlace)))) (dtlsPlace n) taken) refl
-  by-fields octets EndpointDisconnect taken = by-known (knows s (partIn octets identifierPlace)) taken (removed (Table.endpointFor s (partIn octets identifierPlace)) taken) (without s (partIn octets identifierPlace)) refl
+  by-fields octets (TunneledDtls n) taken = by-endpoint (knows s (partIn octets identifierBounds)) taken (delivery (endpointOf (rowOf s (Table.placeOfIdentifier s (partIn octets identifierBounds)))) (dtlsBounds n) taken) refl
+  by-fields octets EndpointDisconnect taken = by-known (knows s (partIn octets identifierBounds)) taken (removed (Table.endpointFor s (partIn octets identifierBounds)) taken) (without s (partIn octets identifierBounds)) refl
 
   by-read : (octets : List ℕ) (r : Read.Answer) → leaves (Table.readAnswer s octets r) s (Table.readNext s octets r) ≡ Table.readNext s octets r
   by-read octets Read.moreNeeded = refl

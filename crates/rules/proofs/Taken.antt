@@ -16,7 +16,7 @@ use Rattle.message.specs.Limits.{header}
 use Rattle.message.specs.Frame as Frame
 use Rattle.message.specs.Frame.{kindOf}
 use Rattle.message.specs.Body.{Content}
-use Rattle.message.specs.Parts.{identifierPlace, dtlsPlace}
+use Rattle.message.specs.Parts.{identifierBounds, dtlsBounds}
 use Rattle.message.specs.Profiles.{inList, keysFit, mkiAndSaltsFit}
 use Rattle.message.specs.Read as Read
 use Rattle.message.specs.Read.{bodyAnswer, frameAnswer, reading}
@@ -36,9 +36,9 @@ use Rattle.rules.specs.Layout.{up, listOf}
 use Rattle.rules.specs.Refusals.{received, receiving}
 use Rattle.rules.specs.Table.{endpointFor, keysVerdict, knows, fieldsAnswer, readAnswer, octetsAnswer}
 use Rattle.rules.specs.Cards.{Held, blank, opened, keyed, Cards}
-use Rattle.rules.specs.CardAnswers.{tunnelOn, byCard, readDue, due}
+use Rattle.rules.specs.CardAnswers.{tunnelOn, byCard, readExpected, expected}
 use Rattle.rules.specs.Taken.{RefusedWith, KeysAnswer, DtlsAnswer, DisconnectAnswer, ReceivesBySteps}
-use Rattle.rules.proofs.ProfilesLaws.{by-profiles, due-reads}
+use Rattle.rules.proofs.ProfilesLaws.{by-profiles, expected-reads}
 
 -- ---- an octet of type 1 at the front of a whole message, and of any other
 
@@ -164,7 +164,7 @@ gone endpoint taken = inl (record { endpoint = endpoint; told = refl })
 table-answering : (s octets : List ℕ) → Answering (readAnswer s octets)
 unfolding fieldsAnswer keysVerdict
 table-answering s octets =
-    let identifier = partIn octets identifierPlace in
+    let identifier = partIn octets identifierBounds in
     record {
       more = refl;
       refusing = λ number taken. refl;
@@ -185,9 +185,9 @@ by-held P blank taken a f u = u
 by-held P (opened endpoint) taken a f u = f endpoint
 by-held P (keyed endpoint k) taken a f u = f endpoint
 
-cards-answering : (cards : Cards) (octets : List ℕ) → Answering (readDue cards octets)
+cards-answering : (cards : Cards) (octets : List ℕ) → Answering (readExpected cards octets)
 cards-answering cards octets =
-    let held = cards .card (partIn octets identifierPlace) .held in
+    let held = cards .card (partIn octets identifierBounds) .held in
     record {
       more = refl;
       refusing = λ number taken. refl;
@@ -195,10 +195,10 @@ cards-answering cards octets =
       keys = λ profile k taken. by-held (KeysAnswer taken) held taken _ (λ endpoint.
           keys-refused false (not (inList profile (listIn (tunnelOn cards)))) (not (keysFit profile k)) (not (mkiAndSaltsFit k)) endpoint taken)
           (inr (record { number = 6; from = omega arith; to = omega arith; told = refl }));
-      dtls = λ m taken. by-held (DtlsAnswer taken) held taken _ (λ endpoint. delivered endpoint (dtlsPlace m) taken) (inr (unknown taken));
+      dtls = λ m taken. by-held (DtlsAnswer taken) held taken _ (λ endpoint. delivered endpoint (dtlsBounds m) taken) (inr (unknown taken));
       disconnect = λ taken. by-held (DisconnectAnswer taken) held taken _ (λ endpoint. gone endpoint taken) (inr (unknown taken));
     }
 
-pub cards-by-steps : (cards : Cards) (octets : List ℕ) → isUp (tunnelOn cards) ≡ true → ReceivesBySteps octets (due cards (Call.tunnelOctets octets))
-unfolding due
-cards-by-steps cards octets e = rw (e, ← due-reads cards octets) (receives-by-steps octets (cards-answering cards octets))
+pub cards-by-steps : (cards : Cards) (octets : List ℕ) → isUp (tunnelOn cards) ≡ true → ReceivesBySteps octets (expected cards (Call.tunnelOctets octets))
+unfolding expected
+cards-by-steps cards octets e = rw (e, ← expected-reads cards octets) (receives-by-steps octets (cards-answering cards octets))

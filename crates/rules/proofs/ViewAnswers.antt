@@ -5,7 +5,7 @@ use mathlib.Core.Bool.{true}
 use mathlib.Core.List.{List}
 use Rattle.octets.specs.Bounds.{partIn}
 use Rattle.message.specs.Message.{Message, encode}
-use Rattle.message.specs.Parts.{identifierPlace, dtlsPlace}
+use Rattle.message.specs.Parts.{identifierBounds, dtlsBounds}
 use Rattle.message.specs.Read as Read
 use Rattle.message.specs.declared.bodies.Fields.{Fields}
 use Rattle.message.specs.declared.bodies.Fields.the-variants.{SupportedProfiles, UnsupportedVersion, MediaKeys, TunneledDtls, EndpointDisconnect}
@@ -31,14 +31,14 @@ module _ (s : List ℕ) where
   fields-answer u octets (SupportedProfiles v n) taken = refl
   fields-answer u octets (UnsupportedVersion v) taken = refl
   fields-answer u octets (MediaKeys profile k) taken =
-      let i = partIn octets identifierPlace in
+      let i = partIn octets identifierBounds in
       rw (view-keys-verdict s u i profile k)
       (answered-same (keysVerdict s i profile k) taken (λ h. ap (λ (e : ℕ). keysStored e taken) (endpoint-seen i (keys-passed s i profile k h .known))))
   fields-answer u octets (TunneledDtls n) taken =
-      let i = partIn octets identifierPlace in
-      rw (view-knows s i) (cond-same (knows s i) (refused 6 taken) (λ h. ap (λ (e : ℕ). delivery e (dtlsPlace n) taken) (endpoint-seen i h)))
+      let i = partIn octets identifierBounds in
+      rw (view-knows s i) (cond-same (knows s i) (refused 6 taken) (λ h. ap (λ (e : ℕ). delivery e (dtlsBounds n) taken) (endpoint-seen i h)))
   fields-answer u octets EndpointDisconnect taken =
-      let i = partIn octets identifierPlace in
+      let i = partIn octets identifierBounds in
       rw (view-knows s i) (cond-same (knows s i) (refused 6 taken) (λ h. ap (λ (e : ℕ). removed e taken) (endpoint-seen i h)))
 
   read-answer : up s ≡ true → (octets : List ℕ) (a : Read.Answer) → readAnswer s octets a ≡ Steps.readAnswer (view s) octets a

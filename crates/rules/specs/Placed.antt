@@ -8,21 +8,21 @@ use lib.ListN.{length, getD}
 use Rattle.rules.specs.Call.{Call, opening}
 use Rattle.rules.specs.Answer.{Association, opened, placed}
 use Rattle.rules.specs.Table.{answer, step}
-use Rattle.rules.specs.View.{Slot, view}
+use Rattle.rules.specs.View.{AtPlace, view}
 
 -- what stands at a place; behind the last place nothing does
-abbrev pub slotAt : List Slot → (place : ℕ) → Slot
-slotAt table place = getD table place none
+abbrev pub atPlace : List AtPlace → (place : ℕ) → AtPlace
+atPlace table place = getD table place none
 
-pub record Placed (before after : List Slot) (place : ℕ) (identifier : List ℕ) (endpoint : ℕ) : Type 0 where
+pub record Placed (before after : List AtPlace) (place : ℕ) (identifier : List ℕ) (endpoint : ℕ) : Type 0 where
   -- it is one of the places, and was free
   pub within : place < length before
-  pub free : slotAt before place ≡ none
+  pub free : atPlace before place ≡ none
   -- every lower place holds a record
-  pub lowest : (lower : ℕ) → lower < place → (a : Association) × (slotAt before lower ≡ some a)
+  pub lowest : (lower : ℕ) → lower < place → (a : Association) × (atPlace before lower ≡ some a)
   -- afterwards the new association stands there, open, and every other place is as it was
-  pub new : slotAt after place ≡ some (opened identifier endpoint)
-  pub others : (other : ℕ) → other ≢ place → slotAt after other ≡ slotAt before other
+  pub new : atPlace after place ≡ some (opened identifier endpoint)
+  pub others : (other : ℕ) → other ≢ place → atPlace after other ≡ atPlace before other
 
 -- of a call on a block: where it is an opening and is answered with a place
 abbrev pub Opening : List ℕ → Call → Type 0

@@ -5,7 +5,7 @@ use mathlib.Core.List.{List, [], _∷_}
 use lib.Dec.{ltb, eqb}
 use Rattle.octets.specs.Bounds.{partIn}
 use Rattle.message.specs.Message.{Message, tunneledDtls, endpointDisconnect, encode}
-use Rattle.message.specs.Parts.{identifierPlace, dtlsPlace}
+use Rattle.message.specs.Parts.{identifierBounds, dtlsBounds}
 use Rattle.message.specs.Profiles.{goodList, inList, keysFit, mkiAndSaltsFit}
 use Rattle.message.specs.Read as Read
 use Rattle.message.specs.declared.bodies.Fields.{Fields}
@@ -134,19 +134,19 @@ unfoldable pub fieldsAnswer : List ℕ → List ℕ → Fields → (taken : ℕ)
 fieldsAnswer s octets (SupportedProfiles v n) taken = refused 4 taken
 fieldsAnswer s octets (UnsupportedVersion v) taken = version v taken
 fieldsAnswer s octets (MediaKeys profile k) taken =
-    answered (keysVerdict s (partIn octets identifierPlace) profile k) taken (keysStored (endpointFor s (partIn octets identifierPlace)) taken)
+    answered (keysVerdict s (partIn octets identifierBounds) profile k) taken (keysStored (endpointFor s (partIn octets identifierBounds)) taken)
 fieldsAnswer s octets (TunneledDtls n) taken =
-    cond (knows s (partIn octets identifierPlace)) (delivery (endpointFor s (partIn octets identifierPlace)) (dtlsPlace n) taken) (refused 6 taken)
+    cond (knows s (partIn octets identifierBounds)) (delivery (endpointFor s (partIn octets identifierBounds)) (dtlsBounds n) taken) (refused 6 taken)
 fieldsAnswer s octets EndpointDisconnect taken =
-    cond (knows s (partIn octets identifierPlace)) (removed (endpointFor s (partIn octets identifierPlace)) taken) (refused 6 taken)
+    cond (knows s (partIn octets identifierBounds)) (removed (endpointFor s (partIn octets identifierBounds)) taken) (refused 6 taken)
 
 unfoldable pub fieldsNext : List ℕ → List ℕ → Fields → List ℕ
 fieldsNext s octets (SupportedProfiles v n) = s
 fieldsNext s octets (UnsupportedVersion v) = downBlock
 fieldsNext s octets (MediaKeys profile k) =
-    after (keysVerdict s (partIn octets identifierPlace) profile k) (rekeyed s (partIn octets identifierPlace) octets profile k) s
+    after (keysVerdict s (partIn octets identifierBounds) profile k) (rekeyed s (partIn octets identifierBounds) octets profile k) s
 fieldsNext s octets (TunneledDtls n) = s
-fieldsNext s octets EndpointDisconnect = cond (knows s (partIn octets identifierPlace)) (without s (partIn octets identifierPlace)) s
+fieldsNext s octets EndpointDisconnect = cond (knows s (partIn octets identifierBounds)) (without s (partIn octets identifierBounds)) s
 
 abbrev pub readAnswer : List ℕ → List ℕ → Read.Answer → Answer
 readAnswer s octets Read.moreNeeded = moreNeeded

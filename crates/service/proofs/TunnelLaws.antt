@@ -13,7 +13,7 @@ use Rattle.octets.specs.Part.{part}
 use Rattle.octets.specs.declared.parts.Bounds.{Bounds}
 use Rattle.octets.proofs.Tests.{by-choice}
 use Rattle.message.specs.Limits.{width, header}
-use Rattle.message.specs.Parts.{identifierPlace, dtlsPlace}
+use Rattle.message.specs.Parts.{identifierBounds, dtlsBounds}
 use Rattle.message.specs.Read as Read
 use Rattle.message.specs.declared.bodies.Fields.{Fields}
 use Rattle.message.specs.declared.bodies.Fields.the-variants.{SupportedProfiles, UnsupportedVersion, MediaKeys, TunneledDtls, EndpointDisconnect}
@@ -40,12 +40,12 @@ module _ (s octets : List ℕ) where
   unfolding fieldsAnswer
   of-fields (SupportedProfiles v n) taken = tt
   of-fields (UnsupportedVersion v) taken = tt
-  of-fields (MediaKeys profile k) taken = of-verdict (keysVerdict s (partIn octets identifierPlace) profile k) (endpointFor s (partIn octets identifierPlace)) taken
+  of-fields (MediaKeys profile k) taken = of-verdict (keysVerdict s (partIn octets identifierBounds) profile k) (endpointFor s (partIn octets identifierBounds)) taken
   of-fields (TunneledDtls n) taken =
-      by-choice OfTunnel (knows s (partIn octets identifierPlace))
-      (delivery (endpointFor s (partIn octets identifierPlace)) (dtlsPlace n) taken) (refused 6 taken) (λ h. refl) (λ h. tt)
+      by-choice OfTunnel (knows s (partIn octets identifierBounds))
+      (delivery (endpointFor s (partIn octets identifierBounds)) (dtlsBounds n) taken) (refused 6 taken) (λ h. refl) (λ h. tt)
   of-fields EndpointDisconnect taken =
-      by-choice OfTunnel (knows s (partIn octets identifierPlace)) (removed (endpointFor s (partIn octets identifierPlace)) taken) (refused 6 taken) (λ h. tt) (λ h. tt)
+      by-choice OfTunnel (knows s (partIn octets identifierBounds)) (removed (endpointFor s (partIn octets identifierBounds)) taken) (refused 6 taken) (λ h. tt) (λ h. tt)
 
   of-reading : (r : Read.Answer) → OfTunnel (readAnswer s octets r)
   of-reading Read.moreNeeded = tt

@@ -11,7 +11,7 @@ returns : tie.Need-returns
 unfolding answer step
 returns c =
     let a = c .before .before .before .before .before .before .before .args in
-    of-receiving (now (a .state)) (now (a .s)) (sym (c .before .before .before .is-up .ensures) ∙ c .before .before .if1 .taken) (receiving (now (a .s))) refl (c .take-frame .ensures)
+    of-receiving (now (a .state)) (now (a .s)) (sym (c .before .before .before .is-up .ensures) ∙ c .before .before .if1 .taken) (receiving (now (a .s))) refl (c .receive .ensures)
 
 returns-2 : tie.Need-returns-2
 unfolding answer step

@@ -11,9 +11,9 @@ use Rattle.message.specs.Limits.{bodyLimit, header, width}
 use Rattle.message.specs.Read.{accepted}
 use Rattle.message.specs.declared.bodies.Fields.the-variants.{TunneledDtls}
 use Rattle.rules.specs.Refusals.{receiving}
-use Rattle.distributor.proofs.FrontLaws.{whole-dtls}
-use Rattle.distributor.proofs.front.whole_dtls.Statement.{statement}
-use Rattle.distributor.proofs.front.whole_dtls.Tie as tie
+use Rattle.distributor.proofs.TunneledLaws.{whole-dtls}
+use Rattle.distributor.proofs.tunneled.whole_dtls.Statement.{statement}
+use Rattle.distributor.proofs.tunneled.whole_dtls.Tie as tie
 
 returns : tie.Need-returns
 returns c some =

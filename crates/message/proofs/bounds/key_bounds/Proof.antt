@@ -2,8 +2,8 @@ use native.Mathlib.Omega.{arith}
 use mathlib.Core.Path.{_≡_, ap}
 use Rattle.octets.specs.declared.parts.Bounds.{Bounds}
 use borrow.Author.Needs.{needs}
-use Rattle.message.proofs.places.key_places.Statement.{statement}
-use Rattle.message.proofs.places.key_places.Tie as tie
+use Rattle.message.proofs.bounds.key_bounds.Statement.{statement}
+use Rattle.message.proofs.bounds.key_bounds.Tie as tie
 
 ends : {x y : Bounds} → x ≡ y → x .end ≡ y .end
 ends h = ap (λ (b : Bounds). b .end) h
@@ -23,5 +23,5 @@ next-requires-4 c κs = omega (arith, ends (c .before .before .before .behind .e
 returns : tie.Need-returns
 returns c = rw (c .next4 .ensures, c .before .next3 .ensures, c .before .before .next2 .ensures, c .before .before .before .next .ensures, c .before .before .before .before .behind .ensures)
 
-pub key-places-spec : {M : Type 1} → statement M
-key-places-spec = tie.close (tie.spec (λ c. search needs) (λ c. search needs) (λ c. search needs) (λ c κs. search needs) next-requires next-requires-2 next-requires-3 next-requires-4 returns)
+pub key-bounds-spec : {M : Type 1} → statement M
+key-bounds-spec = tie.close (tie.spec (λ c. search needs) (λ c. search needs) (λ c. search needs) (λ c κs. search needs) next-requires next-requires-2 next-requires-3 next-requires-4 returns)

@@ -17,7 +17,7 @@ ghost use Rattle.octets.specs.Lent.{PartIn};
 ghost use Rattle.message.specs.Limits.{header, most16};
 ghost use Prim.Native.Nat.{_+_, _≤_, _<_};
 
-pub struct KeyPlaces {
+pub struct KeyBounds {
     pub mki: Bounds,
     pub client_key: Bounds,
     pub server_key: Bounds,
@@ -26,12 +26,12 @@ pub struct KeyPlaces {
 }
 
 // The bounds of every field; those of one that is not there are 0 and 0.
-pub struct Places {
+pub struct FieldBounds {
     pub body: Bounds,
     pub identifier: Bounds,
     pub profile_list: Bounds,
     pub dtls: Bounds,
-    pub keys: KeyPlaces,
+    pub keys: KeyBounds,
 }
 
 pub enum Field {
@@ -51,7 +51,7 @@ const IDENTIFIER: Bounds = Bounds {
     end: HEADER + WIDTH,
 };
 
-// A field of n octets from a place on.
+// A field of n octets from an offset on.
 fn behind(start: usize, n: u16) -> Bounds
     requires { ⌜ start ≤ most16 ⌝ }
     ensures { λ r. ⌜ r ≡ B.behind start n ⌝ }
@@ -72,21 +72,21 @@ fn next(field: Bounds, n: u8) -> Bounds
 
 // Where the DTLS octets of a TunneledDtls stand that has so many.
 pub fn dtls_bounds(n: u16) -> Bounds
-    ensures { λ r. ⌜ r ≡ Spec.dtlsPlace n ⌝ }
+    ensures { λ r. ⌜ r ≡ Spec.dtlsBounds n ⌝ }
 {
     behind(BEFORE_DTLS, n)
 }
 
 // Where the key fields of a MediaKeys with these lengths stand.
-pub fn key_places(k: KeyLengths) -> KeyPlaces
-    ensures { λ r. ⌜ r ≡ Spec.keyPlaces k ⌝ }
+pub fn key_bounds(k: KeyLengths) -> KeyBounds
+    ensures { λ r. ⌜ r ≡ Spec.keyBounds k ⌝ }
 {
     let mki = behind(HEADER + WIDTH + 3, k.mki as u16);
     let client_key = next(mki, k.client_key);
     let server_key = next(client_key, k.server_key);
     let client_salt = next(server_key, k.client_salt);
     let server_salt = next(client_salt, k.server_salt);
-    KeyPlaces {
+    KeyBounds {
         mki,
         client_key,
         server_key,
@@ -95,11 +95,11 @@ pub fn key_places(k: KeyLengths) -> KeyPlaces
     }
 }
 
-fn no_keys() -> KeyPlaces
+fn no_keys() -> KeyBounds
     ensures { λ r. ⌜ r ≡ Spec.noKeys ⌝ }
 {
     let none = NOWHERE;
-    KeyPlaces {
+    KeyBounds {
         mki: none,
         client_key: none,
         server_key: none,
@@ -108,11 +108,11 @@ fn no_keys() -> KeyPlaces
     }
 }
 
-fn no_places() -> Places
-    ensures { λ r. ⌜ r ≡ Spec.placesAt B.nowhere B.nowhere B.nowhere B.nowhere Spec.noKeys ⌝ }
+fn no_bounds() -> FieldBounds
+    ensures { λ r. ⌜ r ≡ Spec.boundsAt B.nowhere B.nowhere B.nowhere B.nowhere Spec.noKeys ⌝ }
 {
     let none = NOWHERE;
-    Places {
+    FieldBounds {
         body: none,
         identifier: none,
         profile_list: none,
@@ -121,12 +121,12 @@ fn no_places() -> Places
     }
 }
 
-// A body that ends at a place and starts with an identifier, and no other field.
-fn identified(end: usize) -> Places
-    ensures { λ r. ⌜ r ≡ Spec.placesAt (B.between header end) Spec.identifierPlace B.nowhere B.nowhere Spec.noKeys ⌝ }
+// A body that ends at an offset and starts with an identifier, and no other field.
+fn identified(end: usize) -> FieldBounds
+    ensures { λ r. ⌜ r ≡ Spec.boundsAt (B.between header end) Spec.identifierBounds B.nowhere B.nowhere Spec.noKeys ⌝ }
 {
     let none = NOWHERE;
-    Places {
+    FieldBounds {
         body: Bounds { start: HEADER, end },
         identifier: IDENTIFIER,
         profile_list: none,
@@ -136,8 +136,8 @@ fn identified(end: usize) -> Places
 }
 
 // Three types have an identifier, and each but one of these has another field.
-fn field_places(fields: Fields, taken: usize) -> Places
-    ensures { λ r. ⌜ r ≡ Spec.fieldPlaces fields taken ⌝ }
+fn field_bounds(fields: Fields, taken: usize) -> FieldBounds
+    ensures { λ r. ⌜ r ≡ Spec.fieldBounds fields taken ⌝ }
 {
     let mut p = identified(taken);
     match fields {
@@ -155,7 +155,7 @@ fn field_places(fields: Fields, taken: usize) -> Places
         Fields::MediaKeys {
             profile: _,
             lengths,
-        } => p.keys = key_places(lengths),
+        } => p.keys = key_bounds(lengths),
         Fields::TunneledDtls { dtls_length } => p.dtls = behind(BEFORE_DTLS, dtls_length),
         Fields::EndpointDisconnect => {}
     }
@@ -163,21 +163,21 @@ fn field_places(fields: Fields, taken: usize) -> Places
 }
 
 // Where the fields stand that an answer has.
-pub fn places_of(read: Read) -> Places
-    ensures { λ r. ⌜ r ≡ Spec.places (answerOf read) ⌝ }
+pub fn bounds_of(read: Read) -> FieldBounds
+    ensures { λ r. ⌜ r ≡ Spec.boundsOf (answerOf read) ⌝ }
 {
     match read {
         Read::MoreNeeded => {}
         Read::Oversize => {}
         Read::Unlisted { taken: _ } => {}
         Read::BadBody { taken: _ } => {}
-        Read::Accepted { fields, taken } => return field_places(fields, taken),
+        Read::Accepted { fields, taken } => return field_bounds(fields, taken),
     }
-    no_places()
+    no_bounds()
 }
 
-pub fn place_of(p: Places, field: Field) -> Bounds
-    ensures { λ r. ⌜ r ≡ Spec.place p field ⌝ }
+pub fn bounds_for(p: FieldBounds, field: Field) -> Bounds
+    ensures { λ r. ⌜ r ≡ Spec.boundsFor p field ⌝ }
 {
     match field {
         Field::Body => p.body,
@@ -196,12 +196,12 @@ pub fn place_of(p: Places, field: Field) -> Bounds
 pub fn field_of(s: &[u8], field: Field) -> &[u8]
     ensures { λ r. ⌜ Spec.FieldOf (s .entry) field r ⌝ }
 {
-    octets::part_in(s, place_of(places_of(read_message(s)), field))
+    octets::part_in(s, bounds_for(bounds_of(read_message(s)), field))
 }
 
 // The identifier that a MediaKeys, TunneledDtls or EndpointDisconnect at the front of s names.
 pub fn identifier(s: &[u8]) -> &[u8]
-    ensures { λ r. ⌜ PartIn (s .entry) Spec.identifierPlace r ⌝ }
+    ensures { λ r. ⌜ PartIn (s .entry) Spec.identifierBounds r ⌝ }
 {
     octets::part_in(s, IDENTIFIER)
 }

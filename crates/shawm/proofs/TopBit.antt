@@ -22,40 +22,40 @@ use Rattle.message.proofs.VerdictLaws.{encode-length}
 use Rattle.ekt.specs.Splitting as Split
 use Rattle.shawm.specs.Numbers.{numberIn, fieldNumber}
 use Rattle.shawm.specs.Tag.{spiOrEpoch, tagNumber}
-use Rattle.shawm.specs.Claims.{SortTold, ReadTold, WriteTold, TagTold}
+use Rattle.shawm.specs.Claims.{SortTopBit, ReadTopBit, WriteTopBit, TagTopBit}
 use Rattle.shawm.proofs.ReadLimits.{ReadLimits, reading-limits}
 use Rattle.shawm.proofs.SplitLimits.{SplitLimits, splitting-limits}
 
 -- ---- sorting
 
-kind-told : (k : Kind) → SortTold (Sort.kind k)
-kind-told Kind.Stun = omega arith
-kind-told Kind.Dtls = omega arith
-kind-told Kind.Rtp = omega arith
-kind-told Kind.Other = omega arith
+kind-top-bit : (k : Kind) → SortTopBit (Sort.kind k)
+kind-top-bit Kind.Stun = omega arith
+kind-top-bit Kind.Dtls = omega arith
+kind-top-bit Kind.Rtp = omega arith
+kind-top-bit Kind.Other = omega arith
 
-pub sort-told : (packet : List ℕ) → SortTold (Sort.sorting packet)
+pub sort-top-bit : (packet : List ℕ) → SortTopBit (Sort.sorting packet)
 unfolding Sort.sorting
-sort-told [] = (refl, omega arith)
-sort-told (first ∷ rest) = kind-told (Sort.kindOf first)
+sort-top-bit [] = (refl, omega arith)
+sort-top-bit (first ∷ rest) = kind-top-bit (Sort.kindOf first)
 
 -- ---- reading
 
-fields-told : (s : List ℕ) (f : Fields) (taken : ℕ) → ReadTold s (Read.accepted f taken)
+fields-top-bit : (s : List ℕ) (f : Fields) (taken : ℕ) → ReadTopBit s (Read.accepted f taken)
 unfolding meaning
-fields-told s (SupportedProfiles version n) taken = omega arith
-fields-told s (UnsupportedVersion version) taken = omega arith
-fields-told s (MediaKeys profile k) taken = omega arith
-fields-told s (TunneledDtls n) taken = omega arith
-fields-told s EndpointDisconnect taken = omega arith
+fields-top-bit s (SupportedProfiles version n) taken = omega arith
+fields-top-bit s (UnsupportedVersion version) taken = omega arith
+fields-top-bit s (MediaKeys profile k) taken = omega arith
+fields-top-bit s (TunneledDtls n) taken = omega arith
+fields-top-bit s EndpointDisconnect taken = omega arith
 
-answer-told : (s : List ℕ) (a : Read.Answer) → ReadLimits s a → ReadTold s a
-answer-told s Read.moreNeeded l = omega arith
-answer-told s (Read.refused number taken) l = (refl, l)
-answer-told s (Read.accepted f taken) l = fields-told s f taken
+answer-top-bit : (s : List ℕ) (a : Read.Answer) → ReadLimits s a → ReadTopBit s a
+answer-top-bit s Read.moreNeeded l = omega arith
+answer-top-bit s (Read.refused number taken) l = (refl, l)
+answer-top-bit s (Read.accepted f taken) l = fields-top-bit s f taken
 
-pub read-told : (s : List ℕ) → ReadTold s (Read.reading s)
-read-told s = answer-told s (Read.reading s) (reading-limits s)
+pub read-top-bit : (s : List ℕ) → ReadTopBit s (Read.reading s)
+read-top-bit s = answer-top-bit s (Read.reading s) (reading-limits s)
 
 -- the version and the profile have 16 bits
 module _ (s : List ℕ) (o : Octets s) (field : ℕ) where
@@ -72,26 +72,26 @@ module _ (s : List ℕ) (o : Octets s) (field : ℕ) where
 
 -- ---- writing
 
-pub write-told : (m : Message) (room : ℕ) → WriteTold (Write.writing m room)
+pub write-top-bit : (m : Message) (room : ℕ) → WriteTopBit (Write.writing m room)
 unfolding Write.writing
-write-told m room =
-    by-choice WriteTold (not (Write.identifierFits m)) _ _ (λ _. (refl, omega arith)) (λ _.
-    by-choice WriteTold (not (Write.fieldsFit m)) _ _ (λ _. (refl, omega arith)) (λ _.
-    by-choice WriteTold (ltb bodyLimit (length (encodeBody m))) _ _ (λ _. (refl, omega arith)) (λ small.
-    by-choice WriteTold (ltb room (length (encode m))) _ _ (λ _. (refl, omega arith)) (λ _.
+write-top-bit m room =
+    by-choice WriteTopBit (not (Write.identifierFits m)) _ _ (λ _. (refl, omega arith)) (λ _.
+    by-choice WriteTopBit (not (Write.fieldsFit m)) _ _ (λ _. (refl, omega arith)) (λ _.
+    by-choice WriteTopBit (ltb bodyLimit (length (encodeBody m))) _ _ (λ _. (refl, omega arith)) (λ small.
+    by-choice WriteTopBit (ltb room (length (encode m))) _ _ (λ _. (refl, omega arith)) (λ _.
     omega (arith, encode-length m, ltb-false bodyLimit (length (encodeBody m)) small)))))
 
 -- ---- splitting
 
 module _ (p : List ℕ) (o : Octets p) where
-  split-told : (a : Split.Split) → SplitLimits p a → TagTold a
-  split-told (Split.refused number) l = (refl, l)
-  split-told (Split.short start) l = omega arith
-  split-told (Split.full spi epoch start end) l = omega arith
-  split-told (Split.extension messageType start end) l = omega (arith, l .small o)
+  split-top-bit : (a : Split.Split) → SplitLimits p a → TagTopBit a
+  split-top-bit (Split.refused number) l = (refl, l)
+  split-top-bit (Split.short start) l = omega arith
+  split-top-bit (Split.full spi epoch start end) l = omega arith
+  split-top-bit (Split.extension messageType start end) l = omega (arith, l .small o)
 
-  pub tag-told : TagTold (Split.splitting p)
-  tag-told = split-told (Split.splitting p) (splitting-limits p)
+  pub tag-top-bit : TagTopBit (Split.splitting p)
+  tag-top-bit = split-top-bit (Split.splitting p) (splitting-limits p)
 
   -- the SPI and the epoch have 16 bits
   tag-small : (field : ℕ) (a : Split.Split) → SplitLimits p a → tagNumber a field < 2 ^ 16

@@ -3,8 +3,8 @@ use denote.Ref.{now}
 use borrow.Author.Needs.{needs}
 use Rattle.rules.specs.Table.{fieldsNext}
 use Rattle.distributor.proofs.ReceivingLaws.{of-reading}
-use Rattle.distributor.proofs.receiving.take_frame.Statement.{statement}
-use Rattle.distributor.proofs.receiving.take_frame.Tie as tie
+use Rattle.distributor.proofs.receiving.receive.Statement.{statement}
+use Rattle.distributor.proofs.receiving.receive.Tie as tie
 
 returns : tie.Need-returns
 unfolding fieldsNext
@@ -12,8 +12,8 @@ returns c =
     let a = c .before .before .before .before .before .before .args in
     of-reading (now (a .state)) (now (a .s)) (sym (c .before .before .before .whole-dtls .ensures (c .before .before .if1 .taken))) (c .deliver .ensures, refl)
 
-pub take-frame-spec : {M : Type 1} → statement M
-take-frame-spec =
+pub receive-spec : {M : Type 1} → statement M
+receive-spec =
     tie.close
     (tie.spec
     (λ c κs. search needs)

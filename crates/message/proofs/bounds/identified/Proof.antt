@@ -1,6 +1,6 @@
 use borrow.Author.Needs.{needs}
-use Rattle.message.proofs.places.identified.Statement.{statement}
-use Rattle.message.proofs.places.identified.Tie as tie
+use Rattle.message.proofs.bounds.identified.Statement.{statement}
+use Rattle.message.proofs.bounds.identified.Tie as tie
 
 returns : tie.Need-returns
 returns c = rw (c .no-keys .ensures)

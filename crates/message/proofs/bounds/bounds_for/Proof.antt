@@ -1,6 +1,6 @@
 use borrow.Author.Needs.{needs}
-use Rattle.message.proofs.places.place_of.Statement.{statement}
-use Rattle.message.proofs.places.place_of.Tie as tie
+use Rattle.message.proofs.bounds.bounds_for.Statement.{statement}
+use Rattle.message.proofs.bounds.bounds_for.Tie as tie
 
 returns : tie.Need-returns
 returns c = rw (c .before .enum-told .given .1)
@@ -29,8 +29,8 @@ returns-8 c = rw (c .before .enum-told8 .given .1)
 returns-9 : tie.Need-returns-9
 returns-9 c = rw (c .before .enum-told9 .given .1)
 
-pub place-of-spec : {M : Type 1} → statement M
-place-of-spec =
+pub bounds-for-spec : {M : Type 1} → statement M
+bounds-for-spec =
     tie.close
     (tie.spec
     (λ c. search needs)

@@ -5,8 +5,8 @@ use Rattle.rules.specs.Refusals.{received, receiving}
 use Rattle.rules.specs.Table.{fieldsAnswer, fieldsNext}
 use Rattle.distributor.proofs.ReceivingLaws.{of-reading}
 use borrow.Author.Needs.{needs}
-use Rattle.distributor.proofs.receiving.take_any.Statement.{statement}
-use Rattle.distributor.proofs.receiving.take_any.Tie as tie
+use Rattle.distributor.proofs.receiving.receive_long.Statement.{statement}
+use Rattle.distributor.proofs.receiving.receive_long.Tie as tie
 
 returns : tie.Need-returns
 unfolding receiving
@@ -38,8 +38,8 @@ returns-5 c =
     let a = c .before .before .before .before .before .before .before .before .before .before .args in
     of-reading (now (a .state)) (now (a .s)) (ap (received (now (a .s))) (ap framingOf (sym (c .before .before .before .before .before .kind .given .1)) ∙ c .before .before .before .before .before .before .before .read-frame .ensures)) (c .before .before .take-whole .ensures)
 
-pub take-any-spec : {M : Type 1} → statement M
-take-any-spec =
+pub receive-long-spec : {M : Type 1} → statement M
+receive-long-spec =
     tie.close
     (tie.spec
     (λ c κs. search needs)
