@@ -1,6 +1,6 @@
 -- Which octets are a tag: RFC 8870, section 4.1, Figure 3, rule by rule. Nothing here speaks of splitting.
--- The numbers are written here from the RFC, not taken from Limits: so the theorems of proofs/ hold to them the limits
--- by which packets are split. Document 01, "Splitting the EKT tag", has the same numbers.
+-- The numbers are written here from the RFC, not taken from Limits: so the theorems of proofs/ hold the limits by which
+-- packets are split to these. Document 01, "Splitting the EKT tag", has the same numbers.
 -- That ciphertext and data are octets (BYTE) is not asked here: a packet's elements are.
 use Prim.Native.Nat.{ℕ, _+_, _≤_, _<_}
 use mathlib.Core.List.{List, [], _∷_, _++_}

@@ -1,4 +1,4 @@
--- The tests of Profiles in other words, with the numbers of document 01 ("The record and its calls") and of RFC 9185, section 5.4: what the theorems in proofs/ say of them.
+-- The tests of Profiles in other words, with the numbers of document 01 ("Tunnel messages", "The record and its calls") and of RFC 9185, section 5.4: what the theorems in proofs/ say of them.
 use Prim.Native.Nat.{ℕ, _+_, _*_, _≤_, _<_}
 use mathlib.Core.Path.{_≡_}
 use mathlib.Core.Logic.{_↔_, _⊎_}

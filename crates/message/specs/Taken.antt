@@ -27,7 +27,7 @@ pub record WholeAt (s : List ℕ) : Type 0 where
 abbrev pub IsUnlisted : ℕ → Type 0
 IsUnlisted type = (type ≡ 0) ⊎ (6 ≤ type)
 
--- an answer other than "more needed": accepted or, for a bad body, refusal 5; so many octets are taken either way
+-- an answer other than "more needed": accepted, or refusal 5; so many octets are taken either way
 abbrev pub Takes : (taken : ℕ) → Answer → Type 0
 Takes n moreNeeded = ⊥
 Takes n (refused number taken) = (number ≡ 5) × (taken ≡ n)
@@ -43,6 +43,6 @@ pub record ReadsBySteps (s : List ℕ) : Type 0 where
   -- 3: other types: length above 4,096 is refusal 2, none taken; not whole yet: more needed
   pub oversize : OfOther s → 4096 < number16At s 1 → reading s ≡ refused 2 0
   pub awaited : OfOther s → number16At s 1 ≤ 4096 → length s < 3 + number16At s 1 → reading s ≡ moreNeeded
-  -- 4: whole: type 0 or 6 to 255 is refusal 3; a bad body is refusal 5; the whole message is taken, refused or not
+  -- 4: whole: type 0 or 6 to 255 is refusal 3; the whole message is taken, refused or not
   pub unlisted : WholeAt s → IsUnlisted (octetAt s 0) → reading s ≡ refused 3 (3 + number16At s 1)
   pub listed : WholeAt s → (IsUnlisted (octetAt s 0) → ⊥) → Takes (3 + number16At s 1) (reading s)

@@ -199,7 +199,8 @@ pub fn field_of(s: &[u8], field: Field) -> &[u8]
     octets::part_in(s, bounds_for(bounds_of(read_message(s)), field))
 }
 
-// The identifier that a MediaKeys, TunneledDtls or EndpointDisconnect at the front of s names.
+// The identifier that a MediaKeys, TunneledDtls or EndpointDisconnect at the front of s names. Of other octets it is those that
+// stand there, as far as they go: no type is looked at.
 pub fn identifier(s: &[u8]) -> &[u8]
     ensures { λ r. ⌜ PartIn (s .entry) Spec.identifierBounds r ⌝ }
 {

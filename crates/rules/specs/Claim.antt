@@ -1,4 +1,4 @@
--- The claim about every list of calls (demand 3): the block that it leads to, and every answer on the way, are what the cards say.
+-- The claim about every list of calls (demand 3): the block that it leads to, and every answer on the way, are what the cards say, and openings take the lowest free place.
 use Prim.Native.Nat.{ℕ, _≤_}
 use mathlib.Core.Path.{_≡_}
 use mathlib.Core.Logic.{_↔_}

@@ -44,7 +44,7 @@ tooLong packet = ltb packetLimit (length packet)
 abbrev pub startMessage : List ℕ → Message
 startMessage list = supportedProfiles 0 list
 
--- 4: the key distributor never sends a SupportedProfiles
+-- 4: type 1 from the key distributor
 abbrev pub isProfiles : MessageKind.Kind → Bool
 isProfiles MessageKind.Kind.SupportedProfiles = true
 isProfiles MessageKind.Kind.UnsupportedVersion = false

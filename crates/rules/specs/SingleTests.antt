@@ -1,4 +1,4 @@
--- The single tests of Refusals in other words, with the numbers of document 01 ("Sorting a packet", "Tunnel messages", "Refusal numbers"): what the theorems in proofs/ say of them.
+-- The single tests of Refusals, but 13, in other words, with the numbers of document 01 ("Sorting a packet", "Tunnel messages", "Refusal numbers"): what the theorems in proofs/ say of them.
 use Prim.Native.Nat.{ℕ, _-_, _≤_, _<_}
 use mathlib.Core.Path.{_≡_}
 use mathlib.Core.Logic.{_↔_, _⊎_}

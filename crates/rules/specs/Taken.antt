@@ -1,4 +1,4 @@
--- What Tunnel octets answers while the tunnel is up, said on the octets themselves: document 01, "Reading the front of a lent stretch", with refusal 4 tested before the body ("The record and its calls"). The numbers are the document's.
+-- How many octets Tunnel octets takes while the tunnel is up, and which kind of answer it gives, said on the octets themselves: document 01, "Reading the front of a lent stretch", with refusal 4 tested before the body ("The record and its calls"). The numbers are the document's.
 use Prim.Native.Nat.{ℕ, _+_, _≤_, _<_}
 use mathlib.Core.Path.{_≡_}
 use mathlib.Core.Logic.{_⊎_}
@@ -28,7 +28,7 @@ pub record Delivered (taken : ℕ) (answer : Answer) : Type 0 where
   pub dtls : Bounds
   pub told : answer ≡ delivery endpoint dtls taken
 
--- to a whole message of type 3, 4 and 5: a bad body is refusal 5, and the table's own refusals are 6 to 9 for keys and 6 for the others
+-- to a whole message of type 3, 4 and 5; 5 is the reading's, 6 to 9 are the table's
 abbrev pub KeysAnswer : (taken : ℕ) → Answer → Type 0
 KeysAnswer taken answer = ForEndpoint (λ endpoint. keysStored endpoint taken) answer ⊎ RefusedWith 5 9 taken answer
 
