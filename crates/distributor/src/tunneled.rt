@@ -1,8 +1,9 @@
 // A whole TunneledDtls at the front of octets from the key distributor, as most are, told by a few tests.
 use message::limits::BEFORE_DTLS;
+use message::limits::BODY_BEFORE_DTLS;
 use message::limits::BODY_LIMIT;
+use message::limits::DTLS_LENGTH_AT;
 use message::limits::HEADER;
-use message::limits::WIDTH;
 use message::types;
 ghost use mathlib.Core.Path.{_≡_};
 ghost use Prim.Native.Nat.{_+_};
@@ -18,9 +19,9 @@ pub(crate) fn whole_dtls(s: &[u8]) -> u16
     if BEFORE_DTLS < s.len() {
         if octets::octet(s, 0) == types::TUNNELED_DTLS {
             let body_length = octets::number16(s, 1);
-            let dtls_length = octets::number16(s, HEADER + WIDTH);
+            let dtls_length = octets::number16(s, DTLS_LENGTH_AT);
             let whole = HEADER + body_length as usize <= s.len();
-            let ends = body_length as usize == WIDTH + 2 + dtls_length as usize;
+            let ends = body_length as usize == BODY_BEFORE_DTLS + dtls_length as usize;
             if (body_length <= BODY_LIMIT) & whole & ends {
                 return dtls_length;
             }

@@ -12,11 +12,16 @@ pub const HEADER: usize = 3;
 // What stands before the list of a SupportedProfiles: header, version 1, length 2.
 pub const BEFORE_LIST: usize = HEADER + 3;
 
-// What stands before the DTLS octets of a TunneledDtls: header, identifier, length 2.
-pub const BEFORE_DTLS: usize = HEADER + WIDTH + 2;
+// Where the number of a TunneledDtls's DTLS octets stands: behind header and identifier.
+pub const DTLS_LENGTH_AT: usize = HEADER + WIDTH;
+
+// What stands before the DTLS octets in a body: identifier, length 2; and in the message.
+pub const BODY_BEFORE_DTLS: usize = WIDTH + 2;
+
+pub const BEFORE_DTLS: usize = HEADER + BODY_BEFORE_DTLS;
 
 // The longest DTLS packet.
-pub const DTLS_LIMIT: usize = BODY_LIMIT as usize - (WIDTH + 2);
+pub const DTLS_LIMIT: usize = BODY_LIMIT as usize - BODY_BEFORE_DTLS;
 
 // A whole EndpointDisconnect.
 pub const DISCONNECT_LENGTH: usize = HEADER + WIDTH;
