@@ -2,7 +2,6 @@
 #include <shawm.h>
 #include <stdio.h>
 
-/* [quoted in README.md] */
 /* Answers how many octets at the front of a media packet are left without its EKT tag, and all of
  * them where no tag ends it. */
 static size_t without_tag(const uint8_t *packet, size_t n)
@@ -19,7 +18,6 @@ static size_t without_tag(const uint8_t *packet, size_t n)
     }
     return shawm_tag_length(packet, n, SHAWM_TAG_FRONT);
 }
-/* [end] */
 
 int main(void)
 {

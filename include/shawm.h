@@ -19,7 +19,7 @@
  *   out_n) must not overlap with any other stretch of the same call.
  *
  *   Nothing is kept between calls: no memory is taken, there is nothing to set up
- *   or to free, and any number of threads may call at once. A place that is
+ *   or to free, and any number of threads may call at once. An offset that is
  *   handed back is an index into the octets that you lent, good for as long as
  *   you leave them there unchanged.
  *
@@ -36,8 +36,8 @@
  *       if (shawm_is_refusal(answer))
  *           log_it(shawm_refusal_number(answer));
  *
- *   The other functions (start, length, number, taken) give a place, a length or a
- *   number, and 0 where there is none.
+ *   The other functions (start, length, number, taken) give an offset, a length or
+ *   a number, and 0 where there is none.
  *
  * Link with -lshawm. x86-64 only.
  */
@@ -77,7 +77,7 @@ extern "C" {
  * function's comment says which is given. */
 enum shawm_refusal {
     SHAWM_TUNNEL_DOWN = 1,          /* the tunnel is down */
-    SHAWM_OVERSIZE = 2,             /* body over SHAWM_BODY_LIMIT, read or to be written */
+    SHAWM_OVERSIZE = 2,             /* body over SHAWM_BODY_LIMIT, type not 2, read or to be written */
     SHAWM_UNLISTED_TYPE = 3,        /* message type 0 or 6 to 255 */
     SHAWM_WRONG_DIRECTION = 4,      /* SupportedProfiles from the key distributor */
     SHAWM_BAD_BODY = 5,             /* body read, or fields to be written, do not match the layout */
@@ -136,15 +136,21 @@ enum shawm_type {
 
 /* Reads one message at the front of n octets from the tunnel. Octets behind it are
  * not looked at. Answers SHAWM_MORE_NEEDED, the type of the accepted message (enum
- * shawm_type), or a refusal:
- *   SHAWM_OVERSIZE        the announced body is over SHAWM_BODY_LIMIT; none taken.
- *                         No boundary can be found again: close the tunnel.
- *   SHAWM_UNLISTED_TYPE   a whole message of a type that RFC 9185 does not list
- *   SHAWM_BAD_BODY        a whole message whose body does not match its type
+ * shawm_type), or a refusal, by the first of these that holds:
+ *   fewer than three octets         SHAWM_MORE_NEEDED
+ *   type 2 with length 0            refused: SHAWM_BAD_BODY; three octets taken
+ *   type 2, fewer than four octets  SHAWM_MORE_NEEDED
+ *   type 2                          SHAWM_UNSUPPORTED_VERSION, whatever its length
+ *                                   says; every octet that was lent is taken
+ *   length over SHAWM_BODY_LIMIT    refused: SHAWM_OVERSIZE; none taken
+ *   not all of it there yet         SHAWM_MORE_NEEDED
+ *   type 0 or 6 to 255              refused: SHAWM_UNLISTED_TYPE; all of it taken
+ *   a body that is not of its type  refused: SHAWM_BAD_BODY; all of it taken
+ *   none of these                   its type; all of it taken
  *
- * UnsupportedVersion is accepted from its first four octets, whatever length it
- * announces (RFC 9185, section 5.5), and takes every octet that was lent; with an
- * announced length of 0 it is refused with SHAWM_BAD_BODY. */
+ * Close the connection after SHAWM_OVERSIZE, as no boundary can be found again, and
+ * after SHAWM_UNSUPPORTED_VERSION, as what follows is to be discarded (RFC 9185,
+ * section 5.5). After any other answer reading goes on. */
 uint32_t shawm_read(const uint8_t *octets, size_t n);
 
 /* How many octets that same reading takes: drop so many from the front before
@@ -170,7 +176,7 @@ enum shawm_field {
 
 /* Where a field of an accepted message stands: octets[start] is its first octet,
  * and it has length octets. A field that is there and empty, which only an MKI can
- * be, has its place and length 0. Both are 0 where the reading has no such field:
+ * be, has its offset and length 0. Both are 0 where the reading has no such field:
  * more needed, refused, another type, a number that is not in the list above. A
  * field that is there never starts at 0. */
 size_t shawm_field_start(const uint8_t *octets, size_t n, uint32_t field);
@@ -252,10 +258,10 @@ enum shawm_tag_field {
 /* The value of a number of a Full tag; 0 where there is none. */
 uint32_t shawm_tag_number(const uint8_t *packet, size_t n, uint32_t field);
 
-/* --------------------------------------------------------------- for comfort */
+/* ------------------------------------------------------- inline functions */
 
 /* A part of octets that you lent. Where there is none, at is NULL and n is 0; a
- * part that is there and empty has its place and n 0. */
+ * part that is there and empty has its address and n 0. */
 struct shawm_part {
     const uint8_t *at;
     size_t n;

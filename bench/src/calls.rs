@@ -129,8 +129,9 @@ impl<L: Lookup> Calls for Rust<L> {
                 REFUSED + number as u64
             }
             Received::MoreNeeded => 0,
-            Received::KeysStored { taken } => {
+            Received::KeysStored { endpoint, taken } => {
                 more[0] = 0;
+                more[1] = endpoint as u64;
                 taken as u64
             }
             Received::Delivery {
@@ -142,8 +143,9 @@ impl<L: Lookup> Calls for Rust<L> {
                 *more = [65536 + endpoint as u64, start as u64, end as u64];
                 taken as u64
             }
-            Received::Disconnected { taken } => {
+            Received::Disconnected { endpoint, taken } => {
                 more[0] = 1;
+                more[1] = endpoint as u64;
                 taken as u64
             }
             Received::Version { version, taken } => {

@@ -121,6 +121,7 @@ pub enum Received {
     },
     MoreNeeded,
     KeysStored {
+        endpoint: u32,
         taken: usize,
     },
     Delivery {
@@ -130,6 +131,7 @@ pub enum Received {
         taken: usize,
     },
     Disconnected {
+        endpoint: u32,
         taken: usize,
     },
     Version {
@@ -312,7 +314,8 @@ impl<L: Lookup> Table<L> {
         Ok(count)
     }
 
-    fn take_keys(&mut self, keys: MediaKeys) -> Result<(), Refusal> {
+    /// The endpoint of the record that has the keys now.
+    fn take_keys(&mut self, keys: MediaKeys) -> Result<u32, Refusal> {
         let place = self
             .place_of_identifier(keys.identifier)
             .ok_or(Refusal(6))?;
@@ -336,7 +339,7 @@ impl<L: Lookup> Table<L> {
             client_salt: Field::new(keys.client_salt),
             server_salt: Field::new(keys.server_salt),
         };
-        Ok(())
+        Ok(record.endpoint)
     }
 
     /// A whole message.
@@ -347,7 +350,7 @@ impl<L: Lookup> Table<L> {
             3 => match media_keys(body) {
                 None => refused(5),
                 Some(keys) => match self.take_keys(keys) {
-                    Ok(()) => Received::KeysStored { taken },
+                    Ok(endpoint) => Received::KeysStored { endpoint, taken },
                     Err(Refusal(number)) => refused(number),
                 },
             },
@@ -370,8 +373,9 @@ impl<L: Lookup> Table<L> {
             5 => match self.place_of_identifier(body) {
                 None => refused(6),
                 Some(place) => {
+                    let endpoint = self.records[place].endpoint;
                     self.vacate(place);
-                    Received::Disconnected { taken }
+                    Received::Disconnected { endpoint, taken }
                 }
             },
             _ => refused(3),

@@ -25,16 +25,6 @@ struct booth *booths_by_endpoint(struct booths *booths, uint32_t endpoint)
     return NULL;
 }
 
-struct booth *booths_by_identifier(struct booths *booths, const uint8_t id[SHAWM_IDENTIFIER_OCTETS])
-{
-    size_t i;
-
-    for (i = 0; i < BOOTHS; i++)
-        if (booths->all[i].live && memcmp(booths->all[i].identifier, id, SHAWM_IDENTIFIER_OCTETS) == 0)
-            return &booths->all[i];
-    return NULL;
-}
-
 struct booth *booths_most_idle(struct booths *booths)
 {
     struct booth *idle = NULL;

@@ -28,7 +28,6 @@ struct booths {
 /* NULL where there is none. */
 struct booth *booths_by_address(struct booths *booths, const struct address *address);
 struct booth *booths_by_endpoint(struct booths *booths, uint32_t endpoint);
-struct booth *booths_by_identifier(struct booths *booths, const uint8_t id[SHAWM_IDENTIFIER_OCTETS]);
 
 /* The live booth that has been silent for longest. NULL where there is none. */
 struct booth *booths_most_idle(struct booths *booths);

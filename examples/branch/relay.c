@@ -91,8 +91,6 @@ static int fits(unsigned kind, size_t n)
     case ANSWER_MORE_NEEDED:
     case ANSWER_ENDED:
         return n == 1;
-    case ANSWER_STORED:
-    case ANSWER_REMOVED:
     case ANSWER_PLACED:
         return n == 3;
     case ANSWER_REFUSED:
@@ -102,6 +100,9 @@ static int fits(unsigned kind, size_t n)
         return n == 1 + RECORD_OCTETS;
     case ANSWER_WRITTEN:
         return n >= 1 + 3;
+    case ANSWER_STORED:
+    case ANSWER_REMOVED:
+        return n == 1 + 2 + 4;
     case ANSWER_DELIVERY:
         return n >= 1 + 2 + 4 + 1;
     default:
@@ -129,6 +130,7 @@ static void take_apart(const uint8_t *at, size_t n, struct answer *answer)
     case ANSWER_STORED:
     case ANSWER_REMOVED:
         answer->taken = number16(at + 1);
+        answer->endpoint = number32(at + 3);
         break;
     case ANSWER_DELIVERY:
         answer->taken = number16(at + 1);

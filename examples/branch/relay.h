@@ -32,7 +32,7 @@ struct answer {
     unsigned kind;           /* enum answer_kind */
     unsigned number;         /* refused: the refusal's number; placed: the place; version: the version */
     size_t taken;            /* of the octets from the tunnel */
-    uint32_t endpoint;       /* delivery */
+    uint32_t endpoint;       /* stored, delivery, removed: of the association that the message named */
     const uint8_t *octets;   /* written: the message; delivery: the DTLS octets. Good until the next call */
     size_t n;
 };

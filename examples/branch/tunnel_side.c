@@ -9,24 +9,12 @@
 #include <stdio.h>
 #include <string.h>
 
-/* The booth whose association the message at the front names. The relay has accepted the message, so it has one. */
-static struct booth *named(struct branch *branch)
-{
-    struct shawm_part id = shawm_field(branch->tunnel.in, branch->tunnel.in_n, SHAWM_FIELD_IDENTIFIER);
-
-    return id.n == SHAWM_IDENTIFIER_OCTETS ? booths_by_identifier(&branch->booths, id.at) : NULL;
-}
-
 /* The keys are in the table: looks them up for the media code, which would take the record here. */
 static int stored(struct branch *branch, struct booth *booth)
 {
     struct answer answer;
     struct record record;
 
-    if (booth == NULL) {
-        say("tunnel: keys stored for an association that no booth has");
-        return 0;
-    }
     if (relay_look(&branch->relay, booth->endpoint, &record, &answer) != 0)
         return -1;
     if (answer.kind == ANSWER_REFUSED)
@@ -41,24 +29,34 @@ static int stored(struct branch *branch, struct booth *booth)
     return 0;
 }
 
-static void deliver(struct branch *branch, const struct answer *answer)
+static void deliver(struct branch *branch, const struct booth *booth, const struct answer *answer)
 {
-    struct booth *booth = booths_by_endpoint(&branch->booths, answer->endpoint);
-
-    if (booth == NULL)
-        say("tunnel: DTLS packet for endpoint %lu, which no booth has", (unsigned long)answer->endpoint);
-    else if (udp_send(branch->udp, &booth->address, answer->octets, answer->n) != 0)
+    if (udp_send(branch->udp, &booth->address, answer->octets, answer->n) != 0)
         say("booth %s: DTLS packet lost: %s", booth->name, strerror(errno));
 }
 
 static void removed(struct booth *booth)
 {
-    if (booth == NULL) {
-        say("tunnel: the key distributor ended an association that no booth has");
-        return;
-    }
     say("booth %s: association ended by the key distributor", booth->name);
     booths_remove(booth);
+}
+
+/* A message for one association: the relay says which endpoint that has. */
+static int for_booth(struct branch *branch, const struct answer *answer)
+{
+    struct booth *booth = booths_by_endpoint(&branch->booths, answer->endpoint);
+
+    if (booth == NULL) {
+        say("tunnel: message for endpoint %lu, which no booth has", (unsigned long)answer->endpoint);
+        return 0;
+    }
+    if (answer->kind == ANSWER_STORED)
+        return stored(branch, booth);
+    if (answer->kind == ANSWER_DELIVERY)
+        deliver(branch, booth, answer);
+    else
+        removed(booth);
+    return 0;
 }
 
 /* A refusal of a message leaves all records as they were and the next message to be read; but the tunnel has ended
@@ -79,18 +77,14 @@ static void version(struct branch *branch, unsigned number)
     branch_ended(branch, why);
 }
 
-/* What one answer asks for, before its octets are dropped. */
+/* What one answer asks for. */
 static int act(struct branch *branch, const struct answer *answer)
 {
     switch (answer->kind) {
     case ANSWER_STORED:
-        return stored(branch, named(branch));
     case ANSWER_DELIVERY:
-        deliver(branch, answer);
-        return 0;
     case ANSWER_REMOVED:
-        removed(named(branch));
-        return 0;
+        return for_booth(branch, answer);
     case ANSWER_VERSION:
         version(branch, answer->number);
         return 0;

@@ -28,6 +28,24 @@ def each_booth_its_own(bench):
         assert distributor.message() == (4, booth.identifier + b"\x00\x08" + DTLS + b"again")
 
 
+def endpoints_above_255(bench):
+    """Every octet of an endpoint number counts, for disconnects, keys and packets."""
+    branch, distributor = bench.up()
+    for _ in range(8):
+        booths = [Booth(branch.port) for _ in range(32)]
+        for booth in booths:
+            booth.send(DTLS)
+        opened = [messages.dtls_of(distributor.message()[1])[0] for _ in booths]
+        distributor.send(b"".join(messages.endpoint_disconnect(identifier) for identifier in opened))
+        for booth in booths:
+            branch.say("booth %s: association ended by the key distributor" % booth.address)
+    booth = branch.booth()
+    assert booth.endpoint == 257
+    branch.key(booth, KEYS)
+    distributor.send(messages.tunneled_dtls(booth.identifier, DTLS))
+    assert booth.receive() == DTLS
+
+
 def lengths(bench):
     branch, distributor = bench.up()
     booth = branch.booth(DTLS[:1])
@@ -158,5 +176,6 @@ def without_a_tunnel(bench):
 
 # For one build alone: with interrupted calls it does not write fast enough.
 ONLY = {burst: "branch-plain"}
-CASES = [identifiers_are_version_4, each_booth_its_own, lengths, kinds, unknown_addresses, silence_ends_an_association,
-         ended_while_nothing_comes, rubbish_is_silence, burst, full, booth_that_is_gone, without_a_tunnel]
+CASES = [identifiers_are_version_4, each_booth_its_own, endpoints_above_255, lengths, kinds, unknown_addresses,
+         silence_ends_an_association, ended_while_nothing_comes, rubbish_is_silence, burst, full, booth_that_is_gone,
+         without_a_tunnel]

@@ -3,6 +3,9 @@
 PLAIN, CHECKED, INTERRUPTED = "branch-plain", "branch-checked", "branch-interrupted"
 DEMO = "demo"
 
+# Where the endpoint of stored keys and of a removed association is read.
+ENDPOINT = "case ANSWER_REMOVED:\n        answer->taken = number16(at + 1);\n        answer->endpoint = number32(at + 3);"
+
 TUNNEL = [
     ("tunnel_side.c", "tunnel_drop(tunnel, answer.taken);", "tunnel_drop(tunnel, tunnel->in_n);",
      PLAIN, "messages_in_one_write"),
@@ -13,9 +16,14 @@ TUNNEL = [
      PLAIN, "messages_in_one_write"),
     ("tunnel_side.c", "booths_by_endpoint(&branch->booths, answer->endpoint)", "booths_most_idle(&branch->booths)",
      PLAIN, "each_booth_its_own"),
-    ("tunnel_side.c", "return stored(branch, named(branch));",
-     "return stored(branch, booths_most_idle(&branch->booths));",
+    ("tunnel_side.c", "return stored(branch, booth);", "return stored(branch, booths_most_idle(&branch->booths));",
      PLAIN, "keys_twice"),
+    ("tunnel_side.c", "removed(booth);", "removed(booths_most_idle(&branch->booths));",
+     PLAIN, "messages_in_one_write"),
+    ("relay.c", ENDPOINT, ENDPOINT.replace("number32(at + 3)", "number16(at + 3) | (uint32_t)number16(at + 5) << 16"),
+     PLAIN, "keys_twice"),
+    ("relay.c", ENDPOINT, ENDPOINT.replace("number32(at + 3)", "at[6]"),
+     PLAIN, "endpoints_above_255"),
     ("tunnel_side.c", "booths_remove(booth);", "(void)booth;",
      PLAIN, "ended_by_the_key_distributor"),
     ("tunnel_side.c", "answer->number == SHAWM_OVERSIZE ||", "answer->number == SHAWM_UNLISTED_TYPE ||",

@@ -22,7 +22,7 @@ use Rattle.rules.specs.Index.{withoutEntry}
 use Rattle.rules.specs.Layout.{up, blockLength, rowOf, endpointOf, identifierOf, identifierAt, padded, vacantRow, withRow, upBlock}
 use Rattle.rules.specs.Verdict.{Verdict, allowed, refusal, after}
 use Rattle.rules.specs.Answer.{Answer, wrote, answered}
-use Rattle.distributor.specs.Outcomes.{checked, Sends, sent}
+use Rattle.distributor.specs.Outcomes.{checked, Sends}
 use Rattle.rules.specs.Refusals.{wrongWidth, noRoom, notDtls, tooLong, startMessage}
 use Rattle.rules.specs.Table.{placeOfIdentifier, placeOfEndpoint, knows, serves, startVerdict, startAnswer, startNext, packetMessage, packetVerdict, packetAnswer, closeVerdict, closeAnswer, closeNext, without}
 use Rattle.distributor.specs.declared.check.Check.{Check}
@@ -54,7 +54,7 @@ fits-accepted m room f = rw (f .identifier, f .fields, le-ltb _ _ (f .limit), le
 was-sent : (w : Verdict) (m : Message) (count : ℕ) (out new : List ℕ) → allowed ≡ w → Fits m (length out) → length (encode m) ≡ count
     → new ≡ Write.output m out → Sends (answered w 0 (wrote (encode m))) out new (Sent.Written count)
 was-sent w m count out new h f e o =
-    rw (sym h) (ap sent (sym e), o ∙ sym (output-written m out (fits-accepted m (length out) f)))
+    rw (sym h) record { octets = encode m; told = refl; counted = sym e; written = o ∙ sym (output-written m out (fits-accepted m (length out) f)) }
 
 -- a place that is there
 there : (n place : ℕ) → n ≡ place → ltb place places ≡ true → n < places

@@ -3,19 +3,27 @@ use Prim.Native.Nat.{ℕ, _+_}
 use mathlib.Core.Path.{_≡_}
 use mathlib.Core.Bool.{cond}
 use mathlib.Core.List.{List, _++_}
+use mathlib.Core.Option.{Option, some, none}
 use lib.ListN.{length, drop}
 use lib.Dec.{eqb}
 use Rattle.rules.specs.Verdict.{Verdict, allowed, refusal}
-use Rattle.rules.specs.Refusals.{ofProfiles}
+use Rattle.rules.specs.Refusals.{isProfiles}
+use Rattle.rules.specs.Call.{Call}
+use Rattle.rules.specs.Table.{answer, step}
 use Rattle.rules.specs.Answer as Answer
-use Rattle.rules.specs.Answer.{Answer, refused, moreNeeded, wrote, placed, ended, found, keysStored, delivery, removed, version}
+use Rattle.rules.specs.Answer.{Answer, refused, moreNeeded, wrote, placed, ended, keysStored, delivery, removed, version}
 use Rattle.distributor.specs.declared.check.Check.{Check}
 use Rattle.distributor.specs.declared.ending.Ended.{Ended}
 use Rattle.distributor.specs.declared.opening.Opened.{Opened}
 use Rattle.distributor.specs.declared.sending.Sent.{Sent}
 use Rattle.distributor.specs.declared.receiving.Received.{Received}
 use Rattle.message.specs.Frame as Frame
+use Rattle.message.specs.Direction.{ofKinds}
 use Rattle.message.specs.Limits.{header}
+
+-- a call does what the rules say: what it returns and writes tells the answer, and the block is left as the step leaves it
+abbrev pub Does : Call → (before after : List ℕ) → (Tells : Answer → Type 0) → Type 0
+Does c before after Tells = Tells (answer before c) × (after ≡ step before c)
 
 -- a verdict, with the place that an allowed call is about: an association's, or the vacant one that an opening takes
 abbrev pub checked : Verdict → (place : ℕ) → Check
@@ -30,56 +38,31 @@ abbrev pub openedOf : Opened → Answer
 openedOf (Opened.Refused number) = refused number 0
 openedOf (Opened.At place) = placed place
 
--- ---- calls that write: refused, or so many octets written
+-- ---- calls that write
 
-pub data Sending : Type 0 where
-  notSent : (number : ℕ) → Sending
-  sent : (count : ℕ) → Sending
+-- so many octets, those of the answer: they stand at the front of the output, and the octets behind are as they were
+pub record Wrote (a : Answer) (before after : List ℕ) (count : ℕ) : Type 0 where
+  pub octets : List ℕ
+  pub told : a ≡ wrote octets
+  pub counted : count ≡ length octets
+  pub written : after ≡ octets ++ drop (length octets) before
 
-abbrev pub sendingOf : Sent → Sending
-sendingOf (Sent.Refused number) = notSent number
-sendingOf (Sent.Written count) = sent count
-
--- an answer of such a call is a refusal or what was written; the others are not theirs
-abbrev pub sending : Answer → Sending
-sending (refused number taken) = notSent number
-sending moreNeeded = notSent 0
-sending (wrote octets) = sent (length octets)
-sending (placed place) = notSent 0
-sending ended = notSent 0
-sending (found a) = notSent 0
-sending (keysStored taken) = notSent 0
-sending (delivery endpoint dtls taken) = notSent 0
-sending (removed taken) = notSent 0
-sending (version number taken) = notSent 0
-
--- the output afterwards: what was written at its front, and the octets behind as they were; or every octet as it was
-abbrev pub outputBy : Answer → List ℕ → List ℕ
-outputBy (refused number taken) out = out
-outputBy moreNeeded out = out
-outputBy (wrote octets) out = octets ++ drop (length octets) out
-outputBy (placed place) out = out
-outputBy ended out = out
-outputBy (found a) out = out
-outputBy (keysStored taken) out = out
-outputBy (delivery endpoint dtls taken) out = out
-outputBy (removed taken) out = out
-outputBy (version number taken) out = out
-
+-- a refusal takes no octet and leaves every octet of the output as it was
 abbrev pub Sends : Answer → (before after : List ℕ) → Sent → Type 0
-Sends a before after r = (sendingOf r ≡ sending a) × (after ≡ outputBy a before)
+Sends a before after (Sent.Refused number) = (a ≡ refused number 0) × (after ≡ before)
+Sends a before after (Sent.Written count) = Wrote a before after count
 
--- ---- Tunnel octets; refusal 5 has a case of its own, so that number with the other stands for what is no answer of this call
+-- ---- Tunnel octets; refusal 5 has a case of its own, and the other case of a refusal stands for no answer with that number
 
-abbrev pub receivedOf : Received → Answer
-receivedOf (Received.Refused number taken) = cond (eqb number 5) ended (refused number taken)
-receivedOf (Received.BadBody taken) = refused 5 taken
-receivedOf Received.MoreNeeded = moreNeeded
-receivedOf (Received.KeysStored taken) = keysStored taken
-receivedOf (Received.Delivery endpoint dtls taken) = delivery endpoint dtls taken
-receivedOf (Received.Disconnected taken) = removed taken
-receivedOf (Received.Version number taken) = version number taken
+abbrev pub receivedOf : Received → Option Answer
+receivedOf (Received.Refused number taken) = cond (eqb number 5) none (some (refused number taken))
+receivedOf (Received.BadBody taken) = some (refused 5 taken)
+receivedOf Received.MoreNeeded = some moreNeeded
+receivedOf (Received.KeysStored endpoint taken) = some (keysStored endpoint taken)
+receivedOf (Received.Delivery endpoint dtls taken) = some (delivery endpoint dtls taken)
+receivedOf (Received.Disconnected endpoint taken) = some (removed endpoint taken)
+receivedOf (Received.Version number taken) = some (version number taken)
 
 -- the octets of a whole SupportedProfiles, which is refusal 4; 0 where the octets hold none
 abbrev pub profilesIn : Frame.Framing → ℕ
-profilesIn f = ofProfiles f (λ n. header + n) 0
+profilesIn f = ofKinds isProfiles f (λ n. header + n) 0

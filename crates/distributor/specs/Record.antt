@@ -18,7 +18,7 @@ use Rattle.distributor.specs.declared.looking.Record.{Record}
 use Rattle.distributor.specs.declared.looking.Found.{Found}
 use Rattle.distributor.specs.declared.looking.Looked.{Looked}
 
--- n octets of a row from a place on
+-- n octets of a row from an offset on
 abbrev pub stretch : List ℕ → (at n : ℕ) → List ℕ
 stretch r at n = padded n (part r at (at + n))
 

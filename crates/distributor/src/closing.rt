@@ -7,14 +7,15 @@ use crate::check::refused;
 use crate::search::place_of_identifier;
 use crate::sending::Sent;
 use crate::storing::put_vacant;
-use message::limits::HEADER;
+use message::limits::DISCONNECT_LENGTH;
 use message::limits::WIDTH;
 use octets::refusal;
 ghost use mathlib.Core.Path.{_≡_};
 ghost use lib.ListN.{length};
+ghost use Rattle.rules.specs.Call as Call;
 ghost use Rattle.rules.specs.Layout.{blockLength};
 ghost use Rattle.rules.specs.Table as Spec;
-ghost use Rattle.distributor.specs.Outcomes.{checked, Sends};
+ghost use Rattle.distributor.specs.Outcomes.{checked, Does, Sends};
 
 fn check_close(state: &[u8], identifier: &[u8], room: usize) -> Check
     requires { ⌜ length (now state) ≡ blockLength ⌝ }
@@ -30,31 +31,24 @@ fn check_close(state: &[u8], identifier: &[u8], room: usize) -> Check
     if PLACES <= place {
         return refused(refusal::NO_ASSOCIATION);
     }
-    if room < HEADER + WIDTH {
+    if room < DISCONNECT_LENGTH {
         return refused(refusal::NO_ROOM);
     }
     Check::Allowed { place }
 }
 
-fn close_in(state: &mut [u8], identifier: &[u8], out: &mut [u8]) -> Sent
-    requires { ⌜ length (now state) ≡ blockLength ⌝ }
-    ensures { λ r. ⌜ Sends (Spec.closeAnswer (now (state .entry)) (now (identifier .entry)) (length (now (out .entry)))) (now (out .entry)) (now (out .exit)) r × (now (state .exit) ≡ Spec.closeNext (now (state .entry)) (now (identifier .entry)) (length (now (out .entry)))) ⌝ }
+// Writes EndpointDisconnect and removes the record; refusals 1, 20, 6, 13.
+pub fn close(state: &mut [u8; BLOCK], identifier: &[u8], out: &mut [u8]) -> Sent
+    ensures { λ r. ⌜ Does (Call.close (now (identifier .entry)) (length (now (out .entry)))) (now (state .entry)) (now (state .exit)) (λ a. Sends a (now (out .entry)) (now (out .exit)) r) ⌝ }
 {
     match check_close(state, identifier, out.len()) {
         Check::Allowed { place } => {
             message::write_endpoint_disconnect(identifier, out);
             put_vacant(state, place);
             Sent::Written {
-                count: HEADER + WIDTH,
+                count: DISCONNECT_LENGTH,
             }
         }
         Check::Refused { number } => Sent::Refused { number },
     }
-}
-
-// Writes EndpointDisconnect and removes the record; refusals 1, 20, 6, 13.
-pub fn close(state: &mut [u8; BLOCK], identifier: &[u8], out: &mut [u8]) -> Sent
-    ensures { λ r. ⌜ Sends (Spec.closeAnswer (now (state .entry)) (now (identifier .entry)) (length (now (out .entry)))) (now (out .entry)) (now (out .exit)) r × (now (state .exit) ≡ Spec.closeNext (now (state .entry)) (now (identifier .entry)) (length (now (out .entry)))) ⌝ }
-{
-    close_in(state, identifier, out)
 }

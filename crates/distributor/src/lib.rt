@@ -4,7 +4,6 @@ mod block;
 mod check;
 mod closing;
 mod ending;
-mod front;
 mod index;
 mod initial;
 mod looking;
@@ -16,6 +15,7 @@ mod search;
 mod sending;
 mod starting;
 mod storing;
+mod tunneled;
 
 pub use block::BLOCK;
 pub use block::PLACES;

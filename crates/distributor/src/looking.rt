@@ -17,8 +17,7 @@ use rows::layout::SERVER_KEY;
 use rows::layout::SERVER_SALT;
 use rows::layout::STATE;
 ghost use mathlib.Core.Path.{_≡_};
-ghost use lib.ListN.{length};
-ghost use Rattle.rules.specs.Layout.{blockLength};
+ghost use Rattle.rules.specs.Call as Call;
 ghost use Rattle.rules.specs.Table as Spec;
 ghost use Rattle.distributor.specs.Record as R;
 
@@ -127,11 +126,12 @@ fn record_of(row: &[u8]) -> Record
     }
 }
 
-fn look_in(state: &[u8], endpoint: u32) -> Looked
-    requires { ⌜ length (now state) ≡ blockLength ⌝ }
-    ensures { λ r. ⌜ (R.lookOf r ≡ Spec.lookAnswer (now (state .entry)) endpoint) × (r .record ≡ R.lookRecord (now (state .entry)) endpoint) ⌝ }
+// An endpoint's whole record; refusals 1, 6. The block is lent to be read.
+pub fn look(state: &[u8; BLOCK], endpoint: u32) -> Looked
+    ensures { λ r. ⌜ (R.lookOf r ≡ Spec.answer (now (state .entry)) (Call.look endpoint)) × (r .record ≡ R.lookRecord (now (state .entry)) endpoint) ⌝ }
 {
-    if !is_up(state) {
+    let s: &[u8] = state;
+    if !is_up(s) {
         return Looked {
             answer: Found::Refused {
                 number: refusal::TUNNEL_DOWN,
@@ -139,7 +139,7 @@ fn look_in(state: &[u8], endpoint: u32) -> Looked
             record: no_record(),
         };
     }
-    let found = place_of_endpoint(state, endpoint);
+    let found = place_of_endpoint(s, endpoint);
     let place = found.place;
     if PLACES <= place {
         return Looked {
@@ -151,14 +151,6 @@ fn look_in(state: &[u8], endpoint: u32) -> Looked
     }
     Looked {
         answer: Found::Here,
-        record: record_of(row_at(state, place)),
+        record: record_of(row_at(s, place)),
     }
-}
-
-// An endpoint's whole record; refusals 1, 6.
-pub fn look(state: &[u8; BLOCK], endpoint: u32) -> Looked
-    ensures { λ r. ⌜ (R.lookOf r ≡ Spec.lookAnswer (now (state .entry)) endpoint) × (r .record ≡ R.lookRecord (now (state .entry)) endpoint) ⌝ }
-{
-    let s: &[u8] = state;
-    look_in(s, endpoint)
 }

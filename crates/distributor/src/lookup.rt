@@ -23,7 +23,7 @@ pub enum Spot {
     Missing { at: usize },
 }
 
-// The place in the index that halving leaves, and how many endpoints it looked at.
+// The position in the index that halving leaves, and how many endpoints it looked at.
 pub struct Halved {
     pub at: usize,
     pub looked: usize,

@@ -10,7 +10,7 @@ ghost use Rattle.rules.specs.Limits.{places};
 // The most octets moved at once: all endpoints of the index.
 const AT_ONCE: usize = 4 * PLACES;
 
-// Octets moved to another place, which may overlap their own: through an array of our own. Both copies count the same
+// Octets moved to another offset, which may overlap their own: through an array of our own. Both copies count the same
 // turns, and a compiler leaves the array out and makes one move of them.
 pub(crate) fn shift(out: &mut [u8], from: usize, size: usize, at: usize)
     requires { ⌜ (size ≤ 4 * places) × (from + size ≤ length (now out)) × (at + size ≤ length (now out)) ⌝ }

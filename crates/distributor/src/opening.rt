@@ -13,9 +13,10 @@ use octets::refusal;
 ghost use mathlib.Core.Path.{_≡_};
 ghost use mathlib.Core.Bool.{cond};
 ghost use lib.ListN.{length};
+ghost use Rattle.rules.specs.Call as Call;
 ghost use Rattle.rules.specs.Layout.{blockLength};
 ghost use Rattle.rules.specs.Table as Spec;
-ghost use Rattle.distributor.specs.Outcomes.{checked, openedOf};
+ghost use Rattle.distributor.specs.Outcomes.{checked, Does, openedOf};
 
 pub enum Opened {
     Refused { number: u8 },
@@ -53,9 +54,9 @@ fn check_open(state: &[u8], identifier: &[u8], endpoint: u32) -> Check
     refused(refusal::TABLE_FULL)
 }
 
-fn open_in(state: &mut [u8], identifier: &[u8], endpoint: u32) -> Opened
-    requires { ⌜ length (now state) ≡ blockLength ⌝ }
-    ensures { λ r. ⌜ (openedOf r ≡ Spec.openAnswer (now (state .entry)) (now (identifier .entry)) endpoint) × (now (state .exit) ≡ Spec.openNext (now (state .entry)) (now (identifier .entry)) endpoint) ⌝ }
+// An association at the lowest free place; refusals 1, 20, 11, 12, 10.
+pub fn open(state: &mut [u8; BLOCK], identifier: &[u8], endpoint: u32) -> Opened
+    ensures { λ r. ⌜ Does (Call.opening (now (identifier .entry)) endpoint) (now (state .entry)) (now (state .exit)) (λ a. openedOf r ≡ a) ⌝ }
 {
     match check_open(state, identifier, endpoint) {
         Check::Allowed { place } => {
@@ -64,11 +65,4 @@ fn open_in(state: &mut [u8], identifier: &[u8], endpoint: u32) -> Opened
         }
         Check::Refused { number } => Opened::Refused { number },
     }
-}
-
-// An association at the lowest free place; refusals 1, 20, 11, 12, 10.
-pub fn open(state: &mut [u8; BLOCK], identifier: &[u8], endpoint: u32) -> Opened
-    ensures { λ r. ⌜ (openedOf r ≡ Spec.openAnswer (now (state .entry)) (now (identifier .entry)) endpoint) × (now (state .exit) ≡ Spec.openNext (now (state .entry)) (now (identifier .entry)) endpoint) ⌝ }
-{
-    open_in(state, identifier, endpoint)
 }

@@ -7,23 +7,25 @@ use crate::block::is_up;
 use crate::block::row_at;
 use crate::check::Check;
 use crate::check::refused;
-use crate::front::whole_dtls;
 use crate::search::place_of_identifier;
 use crate::storing::put_down;
 use crate::storing::put_keys;
 use crate::storing::put_vacant;
+use crate::tunneled::whole_dtls;
 use message::Body;
 use message::Fields;
 use message::Frame;
 use message::KeyLengths;
 use message::Kind;
+use message::limits::BEFORE_DTLS;
 use message::limits::HEADER;
-use message::limits::WIDTH;
 use octets::Bounds;
 use octets::refusal;
 use rows::endpoint_of;
 ghost use mathlib.Core.Path.{_≡_};
+ghost use mathlib.Core.Option.{some};
 ghost use lib.ListN.{length};
+ghost use Rattle.rules.specs.Call as Call;
 ghost use Rattle.rules.specs.Layout as Layout;
 ghost use Rattle.message.specs.Frame as Framing;
 ghost use Rattle.message.specs.Read.{frameAnswer};
@@ -41,7 +43,9 @@ pub enum Received {
         taken: usize,
     },
     MoreNeeded,
+    // The endpoint of the association that the message names, here and below.
     KeysStored {
+        endpoint: u32,
         taken: usize,
     },
     // DTLS octets for an endpoint: where they stand in the lent octets.
@@ -51,6 +55,7 @@ pub enum Received {
         taken: usize,
     },
     Disconnected {
+        endpoint: u32,
         taken: usize,
     },
     Version {
@@ -110,13 +115,14 @@ fn take_keys(
     taken: usize,
 ) -> Received
     requires { ⌜ length (now state) ≡ Layout.blockLength ⌝ }
-    ensures { λ r. ⌜ (Out.receivedOf r ≡ Spec.fieldsAnswer (now (state .entry)) (now (s .entry)) (Fields.MediaKeys profile lengths) taken) × (now (state .exit) ≡ Spec.fieldsNext (now (state .entry)) (now (s .entry)) (Fields.MediaKeys profile lengths)) ⌝ }
+    ensures { λ r. ⌜ (Out.receivedOf r ≡ some (Spec.fieldsAnswer (now (state .entry)) (now (s .entry)) (Fields.MediaKeys profile lengths) taken)) × (now (state .exit) ≡ Spec.fieldsNext (now (state .entry)) (now (s .entry)) (Fields.MediaKeys profile lengths)) ⌝ }
 {
-    let identifier = octets::part(s, HEADER, HEADER + WIDTH);
+    let identifier = message::identifier(s);
     match check_keys(state, identifier, profile, lengths) {
         Check::Allowed { place } => {
+            let endpoint = endpoint_of(row_at(state, place));
             put_keys(state, place, s, profile, lengths);
-            Received::KeysStored { taken }
+            Received::KeysStored { endpoint, taken }
         }
         Check::Refused { number } => Received::Refused { number, taken },
     }
@@ -125,17 +131,14 @@ fn take_keys(
 // TunneledDtls: the octets and their endpoint.
 fn deliver(state: &[u8], s: &[u8], dtls_length: u16, taken: usize) -> Received
     requires { ⌜ length (now state) ≡ Layout.blockLength ⌝ }
-    ensures { λ r. ⌜ Out.receivedOf r ≡ Spec.fieldsAnswer (now (state .entry)) (now (s .entry)) (Fields.TunneledDtls «dtls_length») taken ⌝ }
+    ensures { λ r. ⌜ Out.receivedOf r ≡ some (Spec.fieldsAnswer (now (state .entry)) (now (s .entry)) (Fields.TunneledDtls «dtls_length») taken) ⌝ }
 {
-    let identifier = octets::part(s, HEADER, HEADER + WIDTH);
+    let identifier = message::identifier(s);
     let place = place_of_identifier(state, identifier);
     if place < PLACES {
         Received::Delivery {
             endpoint: endpoint_of(row_at(state, place)),
-            dtls: Bounds {
-                start: HEADER + WIDTH + 2,
-                end: HEADER + WIDTH + 2 + dtls_length as usize,
-            },
+            dtls: message::dtls_bounds(dtls_length),
             taken,
         }
     } else {
@@ -149,13 +152,14 @@ fn deliver(state: &[u8], s: &[u8], dtls_length: u16, taken: usize) -> Received
 // EndpointDisconnect: the record is removed.
 fn disconnect(state: &mut [u8], s: &[u8], taken: usize) -> Received
     requires { ⌜ length (now state) ≡ Layout.blockLength ⌝ }
-    ensures { λ r. ⌜ (Out.receivedOf r ≡ Spec.fieldsAnswer (now (state .entry)) (now (s .entry)) Fields.EndpointDisconnect taken) × (now (state .exit) ≡ Spec.fieldsNext (now (state .entry)) (now (s .entry)) Fields.EndpointDisconnect) ⌝ }
+    ensures { λ r. ⌜ (Out.receivedOf r ≡ some (Spec.fieldsAnswer (now (state .entry)) (now (s .entry)) Fields.EndpointDisconnect taken)) × (now (state .exit) ≡ Spec.fieldsNext (now (state .entry)) (now (s .entry)) Fields.EndpointDisconnect) ⌝ }
 {
-    let identifier = octets::part(s, HEADER, HEADER + WIDTH);
+    let identifier = message::identifier(s);
     let place = place_of_identifier(state, identifier);
     if place < PLACES {
+        let endpoint = endpoint_of(row_at(state, place));
         put_vacant(state, place);
-        Received::Disconnected { taken }
+        Received::Disconnected { endpoint, taken }
     } else {
         Received::Refused {
             number: refusal::NO_ASSOCIATION,
@@ -166,7 +170,7 @@ fn disconnect(state: &mut [u8], s: &[u8], taken: usize) -> Received
 
 fn take_fields(state: &mut [u8], s: &[u8], fields: Fields, taken: usize) -> Received
     requires { ⌜ length (now state) ≡ Layout.blockLength ⌝ }
-    ensures { λ r. ⌜ (Out.receivedOf r ≡ Spec.fieldsAnswer (now (state .entry)) (now (s .entry)) fields taken) × (now (state .exit) ≡ Spec.fieldsNext (now (state .entry)) (now (s .entry)) fields) ⌝ }
+    ensures { λ r. ⌜ (Out.receivedOf r ≡ some (Spec.fieldsAnswer (now (state .entry)) (now (s .entry)) fields taken)) × (now (state .exit) ≡ Spec.fieldsNext (now (state .entry)) (now (s .entry)) fields) ⌝ }
 {
     match fields {
         Fields::SupportedProfiles {
@@ -189,7 +193,7 @@ fn take_fields(state: &mut [u8], s: &[u8], fields: Fields, taken: usize) -> Rece
 // A whole message that is no SupportedProfiles, by its body.
 fn take_body(state: &mut [u8], s: &[u8], kind: Kind, body_length: u16) -> Received
     requires { ⌜ length (now state) ≡ Layout.blockLength ⌝ }
-    ensures { λ r. ⌜ (Out.receivedOf r ≡ Spec.readAnswer (now (state .entry)) (now (s .entry)) (frameAnswer (now (s .entry)) (Framing.whole kind «body_length»))) × (now (state .exit) ≡ Spec.readNext (now (state .entry)) (now (s .entry)) (frameAnswer (now (s .entry)) (Framing.whole kind «body_length»))) ⌝ }
+    ensures { λ r. ⌜ (Out.receivedOf r ≡ some (Spec.readAnswer (now (state .entry)) (now (s .entry)) (frameAnswer (now (s .entry)) (Framing.whole kind «body_length»)))) × (now (state .exit) ≡ Spec.readNext (now (state .entry)) (now (s .entry)) (frameAnswer (now (s .entry)) (Framing.whole kind «body_length»))) ⌝ }
 {
     let taken = HEADER + body_length as usize;
     match message::read_body(kind, octets::part(s, HEADER, taken)) {
@@ -205,7 +209,7 @@ fn take_body(state: &mut [u8], s: &[u8], kind: Kind, body_length: u16) -> Receiv
 // A whole message: refusal 4 comes before its body.
 fn take_whole(state: &mut [u8], s: &[u8], kind: Kind, body_length: u16) -> Received
     requires { ⌜ length (now state) ≡ Layout.blockLength ⌝ }
-    ensures { λ r. ⌜ (Out.receivedOf r ≡ Spec.readAnswer (now (state .entry)) (now (s .entry)) (received (now (s .entry)) (Framing.whole kind «body_length»))) × (now (state .exit) ≡ Spec.readNext (now (state .entry)) (now (s .entry)) (received (now (s .entry)) (Framing.whole kind «body_length»))) ⌝ }
+    ensures { λ r. ⌜ (Out.receivedOf r ≡ some (Spec.readAnswer (now (state .entry)) (now (s .entry)) (received (now (s .entry)) (Framing.whole kind «body_length»)))) × (now (state .exit) ≡ Spec.readNext (now (state .entry)) (now (s .entry)) (received (now (s .entry)) (Framing.whole kind «body_length»))) ⌝ }
 {
     let profiles = profiles_of(kind, body_length);
     if profiles != 0 {
@@ -218,9 +222,9 @@ fn take_whole(state: &mut [u8], s: &[u8], kind: Kind, body_length: u16) -> Recei
 }
 
 // What the front of the octets holds, with the tunnel up: the long way.
-fn take_any(state: &mut [u8], s: &[u8]) -> Received
+fn receive_long(state: &mut [u8], s: &[u8]) -> Received
     requires { ⌜ length (now state) ≡ Layout.blockLength ⌝ }
-    ensures { λ r. ⌜ (Out.receivedOf r ≡ Spec.readAnswer (now (state .entry)) (now (s .entry)) (receiving (now (s .entry)))) × (now (state .exit) ≡ Spec.readNext (now (state .entry)) (now (s .entry)) (receiving (now (s .entry)))) ⌝ }
+    ensures { λ r. ⌜ (Out.receivedOf r ≡ some (Spec.readAnswer (now (state .entry)) (now (s .entry)) (receiving (now (s .entry))))) × (now (state .exit) ≡ Spec.readNext (now (state .entry)) (now (s .entry)) (receiving (now (s .entry)))) ⌝ }
 {
     match message::read_frame(s) {
         Frame::MoreNeeded => Received::MoreNeeded,
@@ -244,35 +248,28 @@ fn take_any(state: &mut [u8], s: &[u8]) -> Received
 }
 
 // A whole TunneledDtls takes the short way: it is what comes most.
-fn take_frame(state: &mut [u8], s: &[u8]) -> Received
+fn receive(state: &mut [u8], s: &[u8]) -> Received
     requires { ⌜ length (now state) ≡ Layout.blockLength ⌝ }
-    ensures { λ r. ⌜ (Out.receivedOf r ≡ Spec.readAnswer (now (state .entry)) (now (s .entry)) (receiving (now (s .entry)))) × (now (state .exit) ≡ Spec.readNext (now (state .entry)) (now (s .entry)) (receiving (now (s .entry)))) ⌝ }
+    ensures { λ r. ⌜ (Out.receivedOf r ≡ some (Spec.readAnswer (now (state .entry)) (now (s .entry)) (receiving (now (s .entry))))) × (now (state .exit) ≡ Spec.readNext (now (state .entry)) (now (s .entry)) (receiving (now (s .entry)))) ⌝ }
 {
     let dtls_length = whole_dtls(s);
     if dtls_length != 0 {
-        let taken = HEADER + (WIDTH + 2 + dtls_length as usize);
+        let taken = BEFORE_DTLS + dtls_length as usize;
         return deliver(state, s, dtls_length, taken);
     }
-    take_any(state, s)
+    receive_long(state, s)
 }
 
-fn octets_in(state: &mut [u8], s: &[u8]) -> Received
-    requires { ⌜ length (now state) ≡ Layout.blockLength ⌝ }
-    ensures { λ r. ⌜ (Out.receivedOf r ≡ Spec.octetsAnswer (now (state .entry)) (now (s .entry))) × (now (state .exit) ≡ Spec.octetsNext (now (state .entry)) (now (s .entry))) ⌝ }
+// Octets from the key distributor: 1, then the reading; type 3: 6, 7, 8, 9; types 4 and 5: 6.
+pub fn tunnel_octets(state: &mut [u8; BLOCK], s: &[u8]) -> Received
+    ensures { λ r. ⌜ Out.Does (Call.tunnelOctets (now (s .entry))) (now (state .entry)) (now (state .exit)) (λ a. Out.receivedOf r ≡ some a) ⌝ }
 {
     if is_up(state) {
-        take_frame(state, s)
+        receive(state, s)
     } else {
         Received::Refused {
             number: refusal::TUNNEL_DOWN,
             taken: 0,
         }
     }
-}
-
-// Octets from the key distributor: 1, then the reading; type 3: 6, 7, 8, 9; types 4 and 5: 6.
-pub fn tunnel_octets(state: &mut [u8; BLOCK], s: &[u8]) -> Received
-    ensures { λ r. ⌜ (Out.receivedOf r ≡ Spec.octetsAnswer (now (state .entry)) (now (s .entry))) × (now (state .exit) ≡ Spec.octetsNext (now (state .entry)) (now (s .entry))) ⌝ }
-{
-    octets_in(state, s)
 }

@@ -9,9 +9,8 @@ use crate::lookup::is_served;
 use crate::lookup::place_of_endpoint;
 use demux::Kind;
 use demux::Sorted;
-use message::limits::BODY_LIMIT;
-use message::limits::HEADER;
-use message::limits::WIDTH;
+use message::limits::BEFORE_DTLS;
+use message::limits::DTLS_LIMIT;
 use octets::refusal;
 use rows::array16;
 use rows::layout::IDENTIFIER;
@@ -21,6 +20,7 @@ ghost use Prim.Native.Nat.{_+_};
 ghost use lib.Dec.{ltb};
 ghost use lib.ListN.{length};
 ghost use Rattle.message.specs.Limits.{header, width};
+ghost use Rattle.rules.specs.Call as Call;
 ghost use Rattle.rules.specs.Layout.{blockLength};
 ghost use Rattle.rules.specs.Refusals.{notDtls, tooLong};
 ghost use Rattle.rules.specs.Table as Spec;
@@ -30,9 +30,6 @@ pub enum Sent {
     Refused { number: u8 },
     Written { count: usize },
 }
-
-// The longest packet that a tunnel message carries.
-const PACKET_LIMIT: usize = BODY_LIMIT as usize - (WIDTH + 2);
 
 fn is_not_dtls(packet: &[u8]) -> bool
     ensures { λ r. ⌜ r ≡ notDtls (now (packet .entry)) ⌝ }
@@ -55,8 +52,8 @@ fn packet_refusal(packet: &[u8], room: usize) -> u8
     if is_not_dtls(packet) {
         return refusal::NOT_DTLS;
     }
-    if packet.len() <= PACKET_LIMIT {
-        if HEADER + WIDTH + 2 + packet.len() <= room {
+    if packet.len() <= DTLS_LIMIT {
+        if BEFORE_DTLS + packet.len() <= room {
             return 0;
         }
         return refusal::NO_ROOM;
@@ -95,26 +92,19 @@ fn check_packet(state: &[u8], endpoint: u32, packet: &[u8], room: usize) -> Chec
     Check::Allowed { place }
 }
 
-fn packet_in(state: &[u8], endpoint: u32, packet: &[u8], out: &mut [u8]) -> Sent
-    requires { ⌜ length (now state) ≡ blockLength ⌝ }
-    ensures { λ r. ⌜ Sends (Spec.packetAnswer (now (state .entry)) endpoint (now (packet .entry)) (length (now (out .entry)))) (now (out .entry)) (now (out .exit)) r ⌝ }
+// Writes TunneledDtls for an endpoint's association; refusals 1, 6, 14, 15, 13. The block is lent to be read.
+pub fn booth_packet(state: &[u8; BLOCK], endpoint: u32, packet: &[u8], out: &mut [u8]) -> Sent
+    ensures { λ r. ⌜ Sends (Spec.answer (now (state .entry)) (Call.boothPacket endpoint (now (packet .entry)) (length (now (out .entry))))) (now (out .entry)) (now (out .exit)) r ⌝ }
 {
-    match check_packet(state, endpoint, packet, out.len()) {
+    let s: &[u8] = state;
+    match check_packet(s, endpoint, packet, out.len()) {
         Check::Allowed { place } => {
-            let identifier = array16(row_at(state, place), IDENTIFIER);
+            let identifier = array16(row_at(s, place), IDENTIFIER);
             message::write_tunneled_dtls(&identifier, packet, out);
             Sent::Written {
-                count: HEADER + WIDTH + 2 + packet.len(),
+                count: BEFORE_DTLS + packet.len(),
             }
         }
         Check::Refused { number } => Sent::Refused { number },
     }
-}
-
-// Writes TunneledDtls for an endpoint's association; refusals 1, 6, 14, 15, 13.
-pub fn booth_packet(state: &[u8; BLOCK], endpoint: u32, packet: &[u8], out: &mut [u8]) -> Sent
-    ensures { λ r. ⌜ Sends (Spec.packetAnswer (now (state .entry)) endpoint (now (packet .entry)) (length (now (out .entry)))) (now (out .entry)) (now (out .exit)) r ⌝ }
-{
-    let s: &[u8] = state;
-    packet_in(s, endpoint, packet, out)
 }

@@ -40,7 +40,7 @@ form-says t =
 joined : (p : List ℕ) (a : ℕ) → a ≤ length p → part p 0 a ++ part p a (length p) ≡ p
 joined p a h = part-join p 0 a (length p) (omega arith) h ∙ part-front p (length p) ∙ take-length p
 
--- places counted from the end
+-- offsets counted from the end
 closer : (n k j : ℕ) → k + j ≤ n → n - (k + j) + j ≡ n - k
 closer n k j h = omega arith
 

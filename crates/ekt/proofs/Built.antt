@@ -37,7 +37,7 @@ nowhere-empty : (p : List ℕ) → part p 0 0 ≡ []
 unfolding part
 nowhere-empty p = refl
 
--- the front is what stands before a place
+-- the front is what stands before an offset
 front-at : (f q : List ℕ) → part (f ++ q) 0 (length f) ≡ f
 front-at f q = part-behind [] f q 0 (length f) refl (omega arith)
 
@@ -81,7 +81,7 @@ short-splits f =
     splits p (Splitting.short (length f)) f [] []
     (ends-in p f 0 refl ∙ ap Splitting.short n) (front-at f shortTag) (nowhere-empty p) (nowhere-empty p)
 
-module _ (f d : List ℕ) (t : ℕ) (h1 : 3 ≤ t) (h2 : t ≤ 255) (h3 : 1 ≤ length d) (h4 : length d ≤ dataLimit) where
+module _ (f d : List ℕ) (t : ℕ) (h1 : 3 ≤ t) (h2 : t ≤ 255) (h3 : 1 ≤ length d) (h4 : length d ≤ 1024) where
   abbrev extended-packet : List ℕ
   extended-packet = f ++ extensionTag t d
 
@@ -117,7 +117,7 @@ module _ (f d : List ℕ) (t : ℕ) (h1 : 3 ≤ t) (h2 : t ≤ 255) (h3 : 1 ≤ 
       splits p extended-split f [] d extended-answer (front-at f (extensionTag t d)) (nowhere-empty p)
       (behind-front p f d (octets16 (length d + extensionTrailer) ++ (t ∷ [])) extended-grouped)
 
-module _ (f c : List ℕ) (spi epoch : ℕ) (h1 : 1 ≤ length c) (h2 : length c ≤ ciphertextLimit) (h3 : spi < 65536) (h4 : epoch < 65536) where
+module _ (f c : List ℕ) (spi epoch : ℕ) (h1 : 1 ≤ length c) (h2 : length c ≤ 251) (h3 : spi < 65536) (h4 : epoch < 65536) where
   abbrev full-packet : List ℕ
   full-packet = f ++ fullTag c spi epoch
 

@@ -14,7 +14,7 @@ pub record Splits (p : List ℕ) (s : Split) (f c d : List ℕ) : Type 0 where
   pub encrypted : ciphertext p ≡ c
   pub extended : extensionData p ≡ d
 
--- the packet is the front before a place and this tag
+-- the packet is the front before an offset and this tag
 pub record Ends (p : List ℕ) (start : ℕ) (tag : List ℕ) : Type 0 where
   pub whole : part p 0 start ++ tag ≡ p
   pub is-tag : IsTag tag

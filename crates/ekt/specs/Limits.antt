@@ -1,4 +1,4 @@
--- The limits of the tag grammar by name: RFC 8870, section 4.1, Figure 3.
+-- The limits by which packets are split: RFC 8870, section 4.1, Figure 3. The theorems of proofs/ hold them to Grammar's numbers.
 use Prim.Native.Nat.{ℕ}
 
 -- EKTCiphertext = 1*251BYTE

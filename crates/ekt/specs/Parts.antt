@@ -1,8 +1,10 @@
 -- The parts of a packet with a tag: document 01, "Splitting the EKT tag". A part that is not there is empty, from 0 to 0.
 use Prim.Native.Nat.{ℕ}
 use mathlib.Core.List.{List}
+use denote.Ref.{RefT, now}
 use Rattle.octets.specs.declared.parts.Bounds.{Bounds}
 use Rattle.octets.specs.Bounds.{between, nowhere, partIn}
+use Rattle.octets.specs.Lent.{StandsAt, PartIn}
 use Rattle.ekt.specs.Splitting.{Split, refused, short, full, extension, splitting}
 
 -- the packet in front of the tag, the ciphertext and the extension's data
@@ -32,3 +34,16 @@ ciphertext p = partIn p (ciphertextBounds (splitting p))
 
 unfoldable pub extensionData : List ℕ → List ℕ
 extensionData p = partIn p (dataBounds (splitting p))
+
+-- ---- the same as parts of the lent packet itself
+
+-- r is the part of the packet between the bounds that its tag sets
+abbrev pub PartBy : (bounds : Split → Bounds) (packet r : RefT (List ℕ)) → Type 0
+PartBy bounds packet r = PartIn packet (bounds (splitting (now packet))) r
+
+-- where they stand: the front from the packet's first octet on, ciphertext and data from the tag's
+abbrev pub Stand : (packet front ciphertext extensionData : RefT (List ℕ)) → Split → Type 0
+Stand packet front ciphertext extensionData (refused number) = Unit {0}
+Stand packet front ciphertext extensionData (short start) = StandsAt packet 0 front
+Stand packet front ciphertext extensionData (full spi epoch start end) = StandsAt packet 0 front × StandsAt packet start ciphertext
+Stand packet front ciphertext extensionData (extension messageType start end) = StandsAt packet 0 front × StandsAt packet start extensionData

@@ -81,21 +81,21 @@ pub fn data_bounds(tag: Tag) -> Bounds
 
 // The packet in front of its tag.
 pub fn front(packet: &[u8]) -> &[u8]
-    ensures { λ r. ⌜ now r ≡ Spec.front (now (packet .entry)) ⌝ }
+    ensures { λ r. ⌜ Spec.PartBy Spec.frontBounds (packet .entry) r ⌝ }
 {
     octets::part_in(packet, front_bounds(split(packet)))
 }
 
 // The ciphertext of a Full tag.
 pub fn ciphertext(packet: &[u8]) -> &[u8]
-    ensures { λ r. ⌜ now r ≡ Spec.ciphertext (now (packet .entry)) ⌝ }
+    ensures { λ r. ⌜ Spec.PartBy Spec.ciphertextBounds (packet .entry) r ⌝ }
 {
     octets::part_in(packet, ciphertext_bounds(split(packet)))
 }
 
 // The data of an Extension tag.
 pub fn extension_data(packet: &[u8]) -> &[u8]
-    ensures { λ r. ⌜ now r ≡ Spec.extensionData (now (packet .entry)) ⌝ }
+    ensures { λ r. ⌜ Spec.PartBy Spec.dataBounds (packet .entry) r ⌝ }
 {
     octets::part_in(packet, data_bounds(split(packet)))
 }

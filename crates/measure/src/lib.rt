@@ -55,8 +55,8 @@ pub extern "C" fn measure_packet(
 }
 
 // The octets taken; 0 where more are needed. A refusal's are in the first of the three lent numbers,
-// which is 0 for keys stored, 1 for a record removed, 2 + the version, or 2^16 + the endpoint with
-// the DTLS octets' bounds in the other two.
+// which is 0 for keys stored and 1 for a record removed, with the endpoint in the second, 2 + the
+// version, or 2^16 + the endpoint with the DTLS octets' bounds in the other two.
 #[no_mangle]
 pub extern "C" fn measure_octets(state: &mut [u8; BLOCK], s: &[u8], more: &mut [u64; 3]) -> u64 {
     match distributor::tunnel_octets(state, s) {
@@ -69,8 +69,9 @@ pub extern "C" fn measure_octets(state: &mut [u8; BLOCK], s: &[u8], more: &mut [
             refused(5)
         }
         Received::MoreNeeded => 0,
-        Received::KeysStored { taken } => {
+        Received::KeysStored { endpoint, taken } => {
             more[0] = 0;
+            more[1] = endpoint as u64;
             taken as u64
         }
         Received::Delivery {
@@ -83,8 +84,9 @@ pub extern "C" fn measure_octets(state: &mut [u8; BLOCK], s: &[u8], more: &mut [
             more[2] = dtls.end as u64;
             taken as u64
         }
-        Received::Disconnected { taken } => {
+        Received::Disconnected { endpoint, taken } => {
             more[0] = 1;
+            more[1] = endpoint as u64;
             taken as u64
         }
         Received::Version { version, taken } => {

@@ -26,7 +26,7 @@ module _ (m : Message) (rest : List ℕ) where
 
   pub body-held : Holds lent (encodeBody m) header
   unfolding encode
-  body-held = record { before = typeOf m ∷ octets16 (length (encodeBody m)); behind = rest; whole = refl; place = refl }
+  body-held = record { before = typeOf m ∷ octets16 (length (encodeBody m)); behind = rest; whole = refl; offset = refl }
 
   -- what stands in the body, as a part of the lent octets
   pub lent-part : {x : List ℕ} {at : ℕ} (b : Bounds) → Holds (encodeBody m) x at → header + at ≡ b .start → b .start + length x ≡ b .end → partIn lent b ≡ x

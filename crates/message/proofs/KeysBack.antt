@@ -10,7 +10,7 @@ use Rattle.message.specs.Limits.{width, most16}
 use Rattle.message.specs.Message.{Message, vector8, encodeBody, mediaKeys}
 use Rattle.message.specs.Frame.{kindOf}
 use Rattle.message.specs.Body as Body
-use Rattle.message.specs.Parts.{identifierPlace, keyPlaces, meaning}
+use Rattle.message.specs.Parts.{identifierBounds, keyBounds, meaning}
 use Rattle.message.specs.Claims.{ReadsBack}
 use Rattle.message.specs.declared.bodies.Fields.the-variants.{MediaKeys}
 use Rattle.message.specs.declared.bodies.KeyLengths.{KeyLengths}
@@ -59,7 +59,7 @@ module _ (identifier : List ℕ) (profile : ℕ) (mki clientKey serverKey client
       let d = field8-good clientSalt t5 1 (c .next) (fit .clientSalt .0) in
       let e = field8-good serverSalt [] 1 (d .next) (fit .serverSalt .0) in
       let end = width + 2 + (1 + length mki) + (1 + length clientKey) + (1 + length serverKey) + (1 + length clientSalt) + (1 + length serverSalt) in
-      let places = keyPlaces lengths in
+      let bounds = keyBounds lengths in
       reads-back keys rest (λ z. omega arith) (accepted .limit) (MediaKeys profile lengths) refl
       (simp (
         fixed-good (i .0) width wide,
@@ -78,10 +78,10 @@ module _ (identifier : List ℕ) (profile : ℕ) (mki clientKey serverKey client
         e .says,
       ))
       (simp (
-        lent-part keys rest identifierPlace (i .0) refl (omega arith),
-        lent-part keys rest (places .mki) (a .held) (omega arith) refl,
-        lent-part keys rest (places .«client_key») (b .held) (omega arith) refl,
-        lent-part keys rest (places .«server_key») (c .held) (omega arith) refl,
-        lent-part keys rest (places .«client_salt») (d .held) (omega arith) refl,
-        lent-part keys rest (places .«server_salt») (e .held) (omega arith) refl,
+        lent-part keys rest identifierBounds (i .0) refl (omega arith),
+        lent-part keys rest (bounds .mki) (a .held) (omega arith) refl,
+        lent-part keys rest (bounds .«client_key») (b .held) (omega arith) refl,
+        lent-part keys rest (bounds .«server_key») (c .held) (omega arith) refl,
+        lent-part keys rest (bounds .«client_salt») (d .held) (omega arith) refl,
+        lent-part keys rest (bounds .«server_salt») (e .held) (omega arith) refl,
       ))

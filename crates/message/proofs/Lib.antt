@@ -10,6 +10,7 @@ pub mod Reached
 pub mod ReadSays
 pub mod WriteBack
 pub mod FieldsMean
+pub mod PartsStand
 pub mod VersionBack
 pub mod WalkLaws
 pub mod WalkEnds
@@ -18,3 +19,6 @@ pub mod EncodeLaws
 pub mod KeysBack
 pub mod ReadBack
 pub mod Stays
+pub mod BodyCases
+pub mod Taken
+pub mod ProfileTests

@@ -34,7 +34,7 @@ module _ {l p x y : List ℕ} {at r : ℕ} where
       let n : length (p ++ q) ≡ length p + length q = length-append p q in
       let w = f (omega arith) in
       let s : length x ≡ length l = ap length (w .output) ∙ simp (length-append, length-drop) (omega arith) in
-      let e = h (omega (arith, w .place)) in
+      let e = h (omega (arith, w .offset)) in
       wrote-more q w (omega arith) (e .0) (e .1)
 
   -- two pieces more

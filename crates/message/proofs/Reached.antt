@@ -24,7 +24,7 @@ use Rattle.message.proofs.FrameSays.{Whole}
 use Rattle.message.proofs.WalkSays.{past-says}
 use Rattle.message.proofs.Encoded.{bodyOf, body-length}
 
--- the walk stands at the place `to` of s; the octets from the header to there, and whether the fields among them fit
+-- the walk stands at the offset `to` of s; the octets from the header to there, and whether the fields among them fit
 pub record Reached (s : List ℕ) (w : Walk) (to : ℕ) (octets : List ℕ) (fit : Bool) : Type 0 where
   pub stands : header + w .at ≡ to
   pub same : octets ≡ part s header to

@@ -14,7 +14,7 @@ use Rattle.message.specs.Message.{Message, supportedProfiles, unsupporte
 use Rattle.message.specs.Frame.{kindOf, frame, versionFrame}
 use Rattle.message.specs.Body as Body
 use Rattle.message.specs.Read.{reading}
-use Rattle.message.specs.Parts.{identifierPlace, listPlace, dtlsPlace, meaning}
+use Rattle.message.specs.Parts.{identifierBounds, listBounds, dtlsBounds, meaning}
 use Rattle.message.specs.Write.{writing, written}
 use Rattle.message.specs.Claims.{Numbers, ReadsBack}
 use Rattle.message.specs.declared.bodies.Fields.the-variants.{SupportedProfiles, UnsupportedVersion, TunneledDtls, EndpointDisconnect}
@@ -49,7 +49,7 @@ profiles-back version profiles rest a =
     let f = field16-good profiles (h .1) (n .0) (n .1) in
     reads-back m rest (λ e. omega arith) (a .limit) (SupportedProfiles version (length profiles)) refl
     (simp (fixed-good (h .0) 1 refl, f .list (eqb-true _ _ (fit .1)), f .says, complete-good body (1 + (2 + length profiles)) (omega arith)))
-    (rw (lent-part m rest (listPlace (length profiles)) (f .held) refl refl))
+    (rw (lent-part m rest (listBounds (length profiles)) (f .held) refl refl))
 
 dtls-back : (identifier dtls rest : List ℕ) {room : ℕ} → Fits (tunneledDtls identifier dtls) room → ReadsBack (tunneledDtls identifier dtls) rest
 unfolding kindOf Body.content Body.tunneledDtls meaning
@@ -62,7 +62,7 @@ dtls-back identifier dtls rest a =
     let f = field16-good dtls (h .1) (n .0) (n .1) in
     reads-back m rest (λ e. omega arith) (a .limit) (TunneledDtls (length dtls)) refl
     (simp (fixed-good (h .0) width wide, f .walk, f .says, complete-good body (width + (2 + length dtls)) (simp length-append (omega arith))))
-    (rw (lent-part m rest identifierPlace (h .0) refl (omega arith), lent-part m rest (dtlsPlace (length dtls)) (f .held) refl refl))
+    (rw (lent-part m rest identifierBounds (h .0) refl (omega arith), lent-part m rest (dtlsBounds (length dtls)) (f .held) refl refl))
 
 disconnect-back : (identifier rest : List ℕ) {room : ℕ} → Fits (endpointDisconnect identifier) room → ReadsBack (endpointDisconnect identifier) rest
 unfolding kindOf Body.content Body.endpointDisconnect meaning
@@ -72,7 +72,7 @@ disconnect-back identifier rest a =
     let h = holds-all identifier refl in
     reads-back m rest (λ e. omega arith) (a .limit) EndpointDisconnect refl
     (simp (fixed-good h width wide, complete-good identifier width (sym wide)))
-    (rw (lent-part m rest identifierPlace h refl (omega arith)))
+    (rw (lent-part m rest identifierBounds h refl (omega arith)))
 
 -- ---- the theorem
 

@@ -18,7 +18,7 @@ use Rattle.message.specs.Frame as Frame
 use Rattle.message.specs.Walk.{complete}
 use Rattle.message.specs.Body as Body
 use Rattle.message.specs.Read.{Answer, moreNeeded, refused, accepted, bodyAnswer, frameAnswer, reading}
-use Rattle.message.specs.Parts.{identifierPlace, meaning}
+use Rattle.message.specs.Parts.{identifierBounds, meaning}
 use Rattle.message.specs.Write.{identifierFits, fieldsFit}
 use Rattle.message.specs.Claims.{WritesBack}
 use Rattle.message.specs.declared.framing.Kind.{Kind}
@@ -69,7 +69,7 @@ module _ (s : List ℕ) (o : Octets s) where
           result = encoded-output s n (whole .there) o (whole .told) (meaning s f) type same (identifier end) (r .fits) (whole .small);
         })) (λ _. tt)
 
-    identifier-fits : width ≤ n → eqb (length (partIn s identifierPlace)) width ≡ true
+    identifier-fits : width ≤ n → eqb (length (partIn s identifierBounds)) width ≡ true
     identifier-fits h = eq-eqb _ _ (part-length s header (header + width) (omega (arith, whole .there)) ∙ omega arith)
 
     profiles-say : octetAt s 0 ≡ 1 → BodySays (Body.supportedProfiles body)

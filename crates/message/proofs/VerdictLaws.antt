@@ -1,7 +1,7 @@
 -- Laws of the verdict on a message to be written.
 use Prim.Native.Nat.{ℕ, _+_, _≤_, _<_}
 use mathlib.Core.Path.{_≡_, refl, sym, ap, subst, _∙_}
-use mathlib.Core.Bool.{Bool, true, false, not}
+use mathlib.Core.Bool.{Bool, true, false, cond, not}
 use mathlib.Core.List.{List, _++_}
 use native.Mathlib.Omega.{arith}
 use borrow.Author.Tests.{ltb-false, not-false, eqb-true}
@@ -10,7 +10,7 @@ use lib.ListN.{length, drop, length-append}
 use Rattle.octets.proofs.Tests.{by-choice, false-true}
 use Rattle.message.specs.Limits.{width, header, bodyLimit}
 use Rattle.message.specs.Message.{Message, supportedProfiles, unsupportedVersion, tunneledDtls, endpointDisconnect, encode, encodeBody}
-use Rattle.message.specs.Write.{Verdict, refused, written, refuse, fitting, identifierFits, fieldsFit, writing, accepts, front, output, outputAfter}
+use Rattle.message.specs.Write.{Verdict, refused, written, fitting, identifierFits, fieldsFit, writing, accepts, front, output, outputAfter}
 use Rattle.message.specs.Steps.{verdict, countOf}
 
 pub encode-length : (m : Message) → length (encode m) ≡ header + length (encodeBody m)
@@ -29,7 +29,7 @@ module _ (m : Message) (room : ℕ) where
 
   by-identifier : (b : Bool) (n : ℕ) → (b ≡ true → length (encodeBody m) ≡ n)
       → verdict b (fieldsFit m) n room
-      ≡ refuse (not b) 20 (refuse (not (fieldsFit m)) 5 (fitting (length (encodeBody m)) (length (encode m)) room))
+      ≡ cond (not b) (refused 20) (cond (not (fieldsFit m)) (refused 5) (fitting (length (encodeBody m)) (length (encode m)) room))
   by-identifier true n h = rw (encode-length m, h refl)
   by-identifier false n h = refl
 

@@ -13,7 +13,7 @@ use Rattle.message.specs.declared.bodies.Fields.the-variants.{SupportedP
 use Rattle.message.specs.declared.bodies.Body.{Body}
 use Rattle.message.specs.declared.walking.Walk.{Walk}
 
--- a refusal by its number, or the fields: their numbers and lengths, from which their places follow (Parts)
+-- a refusal by its number, or the fields: their numbers and lengths, from which their bounds follow (Parts)
 pub data Content : Type 0 where
   refused : (number : ℕ) → Content
   fields : Fields → Content

@@ -8,7 +8,7 @@ use Rattle.message.specs.Limits.{most16}
 use Rattle.message.specs.Message.{Message, supportedProfiles, unsupportedVersion, mediaKeys, tunneledDtls, endpointDisconnect, encode}
 use Rattle.message.specs.Read.{Answer, moreNeeded, refused, accepted, reading}
 use Rattle.message.specs.Parts.{meaning, field}
-use Rattle.message.specs.declared.places.Field.{Field}
+use Rattle.message.specs.declared.bounds.Field.{Field}
 use Rattle.message.specs.Write.{writing, written, output}
 use Rattle.message.specs.declared.bodies.Fields.{Fields}
 use Rattle.message.specs.declared.bodies.Fields.the-variants.{SupportedProfiles, UnsupportedVersion, MediaKeys, TunneledDtls, EndpointDisconnect}

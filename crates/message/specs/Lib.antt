@@ -4,8 +4,11 @@ pub mod Frame
 pub mod Walk
 pub mod Body
 pub mod Read
+pub mod Direction
 pub mod Parts
 pub mod Write
 pub mod Steps
 pub mod Profiles
 pub mod Claims
+pub mod Taken
+pub mod ProfileTests

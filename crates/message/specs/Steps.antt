@@ -1,24 +1,24 @@
--- What the steps of writing promise: a piece at a place, and the verdict on a message by the lengths of its fields.
+-- What the steps of writing promise: a piece at an offset, and the verdict on a message by the lengths of its fields.
 use Prim.Native.Nat.{ℕ, _+_, _≤_}
 use mathlib.Core.Path.{_≡_}
-use mathlib.Core.Bool.{Bool, not, _&&_}
+use mathlib.Core.Bool.{Bool, cond, not, _&&_}
 use mathlib.Core.List.{List}
 use lib.ListN.{length}
 use lib.Dec.{eqb}
 use Rattle.octets.specs.Range.{within}
 use Rattle.octets.specs.Write.{put, putEnd}
 use Rattle.message.specs.Limits.{width, header, most8}
-use Rattle.message.specs.Write.{Verdict, refused, written, refuse, fitting}
+use Rattle.message.specs.Write.{Verdict, refused, written, fitting}
 
--- where there is room for a piece it is written, and the answer is the place behind it
+-- where there is room for a piece it is written, and the answer is the offset behind it
 abbrev pub Puts : (before : List ℕ) (at : ℕ) (piece : List ℕ) (r : ℕ) (after : List ℕ) → Type 0
 Puts before at piece r after = at + length piece ≤ length before → (r ≡ putEnd before at piece) × (after ≡ put before at piece)
 
 -- the earliest refusal, by whether the identifier and the fields fit and by the body's length, or the message's length
 abbrev pub verdict : (identifier fields : Bool) (bodyLength room : ℕ) → Verdict
 verdict identifier fields bodyLength room =
-    refuse (not identifier) 20
-    (refuse (not fields) 5
+    cond (not identifier) (refused 20)
+    (cond (not fields) (refused 5)
     (fitting bodyLength (header + bodyLength) room))
 
 -- the octets written, 0 where a message is refused

@@ -7,7 +7,7 @@ use lib.Dec.{leb, eqb}
 use Rattle.octets.specs.Number.{octetAt, number16At}
 use Rattle.message.specs.declared.walking.Walk.{Walk}
 
--- whether every field so far was good, and the place in the body where the walk stands
+-- whether every field so far was good, and the offset in the body where the walk stands
 abbrev pub walkAt : Bool → ℕ → Walk
 walkAt good at = record { good = good; at = at }
 

@@ -15,10 +15,6 @@ pub data Verdict : Type 0 where
   refused : (number : ℕ) → Verdict
   written : (count : ℕ) → Verdict
 
--- a refusal where its test holds, else what comes next
-abbrev pub refuse : Bool → (number : ℕ) → Verdict → Verdict
-refuse test number next = cond test (refused number) next
-
 -- an identifier has A octets
 abbrev pub identifierFits : Message → Bool
 identifierFits (supportedProfiles version profiles) = true
@@ -40,15 +36,15 @@ fieldsFit (endpointDisconnect identifier) = true
 -- a body within the limit, and a message that there is room for
 abbrev pub fitting : (bodyLength messageLength room : ℕ) → Verdict
 fitting bodyLength messageLength room =
-    refuse (ltb bodyLimit bodyLength) 2
-    (refuse (ltb room messageLength) 13
+    cond (ltb bodyLimit bodyLength) (refused 2)
+    (cond (ltb room messageLength) (refused 13)
     (written messageLength))
 
 -- the earliest refusal, or the octets that are written; refusals 2 and 13 go by the encoding
 unfoldable pub writing : Message → (room : ℕ) → Verdict
 writing m room =
-    refuse (not (identifierFits m)) 20
-    (refuse (not (fieldsFit m)) 5
+    cond (not (identifierFits m)) (refused 20)
+    (cond (not (fieldsFit m)) (refused 5)
     (fitting (length (encodeBody m)) (length (encode m)) room))
 
 abbrev pub accepts : Verdict → Bool

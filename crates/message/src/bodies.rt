@@ -16,7 +16,7 @@ pub struct KeyLengths {
     pub server_salt: u8,
 }
 
-// The numbers and lengths of a message's fields; `places_of` tells where they stand.
+// The numbers and lengths of a message's fields; `bounds_of` tells where they stand.
 pub enum Fields {
     SupportedProfiles { version: u8, list_length: u16 },
     UnsupportedVersion { version: u8 },

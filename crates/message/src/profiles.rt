@@ -40,7 +40,7 @@ pub fn in_list(profile: u16, list: &[u8]) -> bool
     false
 }
 
-// Whether the entry at a place is a profile that does not come again.
+// Whether the entry at an offset is a profile that does not come again.
 fn sound_entry(list: &[u8], at: usize, next: usize) -> bool
     ensures { λ r. ⌜ r ≡ Spec.isProfile (number16At (now (list .entry)) at) && not (Spec.inList (number16At (now (list .entry)) at) (drop next (now (list .entry)))) ⌝ }
 {

@@ -1,5 +1,6 @@
 // The octets of messages, piece behind piece, in an output that has room for them.
 use crate::limits::HEADER;
+use crate::types;
 ghost use mathlib.Core.Path.{_≡_};
 ghost use mathlib.Core.List.{_∷_, _++_};
 ghost use Prim.Native.Nat.{_-_, _≤_};
@@ -51,7 +52,7 @@ pub(crate) fn supported_profiles(version: u8, list: &[u8], count: usize, out: &m
     requires { ⌜ writing (M.supportedProfiles version (now list)) (length (now out)) ≡ written count ⌝ }
     ensures { λ _. ⌜ now (out .exit) ≡ front (M.supportedProfiles version (now (list .entry))) (now (out .entry)) ⌝ }
 {
-    let a = put_header(1, count, out);
+    let a = put_header(types::SUPPORTED_PROFILES, count, out);
     let b = octets::put_octet(out, a, version);
     put_vector16(list, b, out);
 }
@@ -60,7 +61,7 @@ pub(crate) fn unsupported_version(version: u8, count: usize, out: &mut [u8])
     requires { ⌜ writing (M.unsupportedVersion version) (length (now out)) ≡ written count ⌝ }
     ensures { λ _. ⌜ now (out .exit) ≡ front (M.unsupportedVersion version) (now (out .entry)) ⌝ }
 {
-    let a = put_header(2, count, out);
+    let a = put_header(types::UNSUPPORTED_VERSION, count, out);
     octets::put_octet(out, a, version);
 }
 
@@ -78,7 +79,7 @@ pub(crate) fn media_keys(
     requires { ⌜ writing (M.mediaKeys (now identifier) profile (now mki) (now «client_key») (now «server_key») (now «client_salt») (now «server_salt»)) (length (now out)) ≡ written count ⌝ }
     ensures { λ _. ⌜ now (out .exit) ≡ front (M.mediaKeys (now (identifier .entry)) profile (now (mki .entry)) (now («client_key» .entry)) (now («server_key» .entry)) (now («client_salt» .entry)) (now («server_salt» .entry))) (now (out .entry)) ⌝ }
 {
-    let a = put_header(3, count, out);
+    let a = put_header(types::MEDIA_KEYS, count, out);
     let b = octets::put_octets(out, a, identifier);
     let c = octets::put_number16(out, b, profile);
     let d = put_vector8(mki, c, out);
@@ -90,7 +91,7 @@ pub(crate) fn tunneled_dtls(identifier: &[u8], dtls: &[u8], count: usize, out: &
     requires { ⌜ writing (M.tunneledDtls (now identifier) (now dtls)) (length (now out)) ≡ written count ⌝ }
     ensures { λ _. ⌜ now (out .exit) ≡ front (M.tunneledDtls (now (identifier .entry)) (now (dtls .entry))) (now (out .entry)) ⌝ }
 {
-    let a = put_header(4, count, out);
+    let a = put_header(types::TUNNELED_DTLS, count, out);
     let b = octets::put_octets(out, a, identifier);
     put_vector16(dtls, b, out);
 }
@@ -99,6 +100,6 @@ pub(crate) fn endpoint_disconnect(identifier: &[u8], count: usize, out: &mut [u8
     requires { ⌜ writing (M.endpointDisconnect (now identifier)) (length (now out)) ≡ written count ⌝ }
     ensures { λ _. ⌜ now (out .exit) ≡ front (M.endpointDisconnect (now (identifier .entry))) (now (out .entry)) ⌝ }
 {
-    let a = put_header(5, count, out);
+    let a = put_header(types::ENDPOINT_DISCONNECT, count, out);
     octets::put_octets(out, a, identifier);
 }

@@ -2,7 +2,7 @@
 ghost use mathlib.Core.Path.{_≡_};
 ghost use Rattle.message.specs.Walk as Spec;
 
-// Whether every field so far was good, and the place in the body where the walk stands.
+// Whether every field so far was good, and the offset in the body where the walk stands.
 pub struct Walk {
     pub good: bool,
     pub at: usize,

@@ -1,5 +1,5 @@
-// Pieces written at a place of an output: whole where they fit, else nothing is written. Each
-// answers the place behind the piece, or its own place where nothing was written.
+// Pieces written at an offset of an output: whole where they fit, else nothing is written. Each
+// answers the offset behind the piece, or its own offset where nothing was written.
 use crate::parts::part;
 ghost use mathlib.Core.Path.{_≡_};
 ghost use mathlib.Core.List.{[], _∷_};

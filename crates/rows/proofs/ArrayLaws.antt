@@ -56,7 +56,7 @@ padded-over n p h =
     let z : 0 + length p ≡ length p = omega arith in
     rw z (sym (padded-front p n n h (le-refl n)))
 
--- n octets from a place on
+-- n octets from an offset on
 pub all-put : (n : ℕ) (s t x : List ℕ) (at : ℕ) → t ≡ part s at (length s) → x ≡ over (replicate n 0) 0 (take n t) → x ≡ padded n (part s at (at + n))
 unfolding part
 all-put n s t x at e f =

@@ -8,7 +8,7 @@ use lib.Seq.{take-at, take-add, drop-drop, drop-append-add, length-take-le}
 use Rattle.octets.specs.Write.{over, put}
 use Rattle.octets.proofs.WriteLaws.{over-over, over-length, put-whole}
 
--- a piece over a shorter one at its place
+-- a piece over a shorter one at its offset
 over-cover : (l q r : List ℕ) (at : ℕ) → at + length r ≤ length l → length q ≤ length r → over (over l at q) at r ≡ over l at r
 over-cover l q r at h k =
     let p = take at l in

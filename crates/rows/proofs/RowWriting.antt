@@ -11,9 +11,9 @@ use Rattle.octets.specs.Write.{put}
 use Rattle.octets.proofs.WriteLaws.{Wrote, end-whole, wrote-more}
 use Rattle.rules.specs.Layout.{octetsOf16, octetsOf32}
 
--- the same octets, with the place said otherwise
+-- the same octets, with the offset said otherwise
 pub wrote-at : {l p x : List ℕ} {at : ℕ} → Wrote l p x at → (to : ℕ) → to ≡ length p → Wrote l p x to
-wrote-at w to e = record { output = w .output; place = e }
+wrote-at w to e = record { output = w .output; offset = e }
 
 part-length-of : (l : List ℕ) (at to : ℕ) → to ≤ length l → length (take (to - at) (drop at l)) ≡ to - at
 part-length-of l at to k = simp (length-take, length-drop) (omega arith)
@@ -24,28 +24,28 @@ unfolding part
 wrote-keep {l} {p} {x} {at} w to h k =
     let n : length (take (to - at) (drop at l)) ≡ to - at = part-length-of l at to k in
     let e : at + (to - at) ≡ to = omega arith in
-    let m : length (p ++ take (to - at) (drop at l)) ≡ to = length-append p _ ∙ rw (n, ← (w .place)) e in
+    let m : length (p ++ take (to - at) (drop at l)) ≡ to = length-append p _ ∙ rw (n, ← (w .offset)) e in
     record {
       output =
           w .output
-          ∙ ap (λ (i : ℕ). p ++ drop i l) (sym (w .place))
+          ∙ ap (λ (i : ℕ). p ++ drop i l) (sym (w .offset))
           ∙ ap (λ (q : List ℕ). p ++ q) (sym (take-append-drop (to - at) (drop at l)) ∙ ap (λ (q : List ℕ). take (to - at) (drop at l) ++ q) (drop-drop (to - at) at l ∙ ap (λ (i : ℕ). drop i l) e))
           ∙ sym (append-assoc p (take (to - at) (drop at l)) (drop to l))
           ∙ ap (λ (i : ℕ). (p ++ take (to - at) (drop at l)) ++ drop i l) (sym m);
-      place = sym m;
+      offset = sym m;
     }
 
 -- one piece more, where there is room for it
 pub wrote-put : {l p x y : List ℕ} {at : ℕ} (q : List ℕ) → Wrote l p x at → length p + length q ≤ length l → y ≡ put x at q → Wrote l (p ++ q) y (at + length q)
 wrote-put {l} {p} {x} {y} {at} q w room h =
     let s : length x ≡ length l = ap length (w .output) ∙ (simp (length-append, length-drop) (omega arith)) in
-    let k : at + length q ≤ length x = omega (arith, w .place) in
+    let k : at + length q ≤ length x = omega (arith, w .offset) in
     wrote-more q w room (sym (end-whole x at q k)) h
 
 -- all of an output was written
 pub wrote-all : {l p x : List ℕ} {at : ℕ} → Wrote l p x at → at ≡ length l → x ≡ p
 wrote-all {l} {p} {x} {at} w e =
-    let h : length l ≤ length p = omega (arith, w .place) in
+    let h : length l ≤ length p = omega (arith, w .offset) in
     w .output ∙ rw (drop-of-length-le l h) (append-nil p)
 
 -- ---- numbers of 16 and 32 bits, as they are written

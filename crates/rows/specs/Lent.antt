@@ -6,6 +6,6 @@ use lib.ListN.{length}
 use lib.Dec.{eqb}
 use Rattle.rules.specs.Layout.{rowLength}
 
--- another row in the place of a row; octets of another length are no row, and stay as they were
+-- another row instead of a row; octets of another length are no row, and stay as they were
 abbrev pub onRow : List ℕ → List ℕ → List ℕ
 onRow r new = cond (eqb (length r) rowLength) new r

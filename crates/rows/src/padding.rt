@@ -1,4 +1,4 @@
-// Octets written at a place and padded with zeros.
+// Octets written at an offset and padded with zeros.
 ghost use mathlib.Core.Path.{_≡_};
 ghost use Prim.Native.Nat.{_+_, _≤_};
 ghost use lib.ListN.{length, replicate};
@@ -41,7 +41,7 @@ fn put_short(out: &mut [u8], at: usize, s: &[u8])
     }
 }
 
-// The first n octets of s from a place on, with zeros behind where there are fewer.
+// The first n octets of s from an offset on, with zeros behind where there are fewer.
 pub(crate) fn pad(out: &mut [u8], at: usize, n: usize, s: &[u8])
     requires { ⌜ at + n ≤ length (now out) ⌝ }
     ensures { λ _. ⌜ now (out .exit) ≡ over (now (out .entry)) at (Spec.padded n (now (s .entry))) ⌝ }
@@ -50,7 +50,7 @@ pub(crate) fn pad(out: &mut [u8], at: usize, n: usize, s: &[u8])
     put_short(out, at, octets::part(s, 0, n));
 }
 
-// The same in any output: nothing is written where it has no n octets from the place on.
+// The same in any output: nothing is written where it has no n octets from the offset on.
 pub fn put_padded(out: &mut [u8], at: usize, n: usize, s: &[u8])
     ensures { λ _. ⌜ now (out .exit) ≡ put (now (out .entry)) at (Spec.padded n (now (s .entry))) ⌝ }
 {

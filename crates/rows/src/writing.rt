@@ -49,7 +49,7 @@ fn write_keys(row: &mut [u8], s: &[u8], profile: u16, lengths: KeyLengths)
     requires { ⌜ length (now row) ≡ Spec.rowLength ⌝ }
     ensures { λ _. ⌜ now (row .exit) ≡ Spec.keyedRow (keysIn (now (s .entry)) profile lengths) (now (row .entry)) ⌝ }
 {
-    let k = message::key_places(lengths);
+    let k = message::key_bounds(lengths);
     octets::put_octet(row, STATE, 2);
     octets::put_number16(row, PROFILE, profile);
     put_part(row, MKI, MKI_LIMIT as usize, s, k.mki);

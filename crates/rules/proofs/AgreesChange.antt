@@ -12,13 +12,13 @@ use Rattle.rules.specs.Limits.{places}
 use Rattle.rules.specs.Search.{keep, Distinct}
 use Rattle.rules.specs.Tunnel.{Tunnel, down, upWith, isUp}
 use Rattle.rules.specs.Verdict.{Verdict, allowed, refusal, after}
-use Rattle.rules.specs.View.{Slot, View, isFor}
+use Rattle.rules.specs.View.{AtPlace, View, isFor}
 use Rattle.rules.specs.Cards as Cards
 use Rattle.rules.specs.Cards.{Held, blank, opened, keyed, Card, Cards, filled, holding, with, downCard}
 use Rattle.rules.specs.ViewSteps.{downView}
 use Rattle.rules.proofs.Choices.{no-both, chosen, no-choice}
 use Rattle.rules.proofs.Accepting.{accepts}
-use Rattle.rules.proofs.Agrees.{Agrees, slotsOn}
+use Rattle.rules.proofs.Agrees.{Agrees, placesOn}
 
 -- ---- every card blank
 
@@ -32,8 +32,8 @@ blank-agrees : (t : Tunnel) (is : List (List ℕ)) → Distinct is
 blank-agrees t is o =
     record {
       tunnel = λ i. refl;
-      size = length-replicate {A = Slot} places none;
-      slots = λ i. keep-none i places;
+      size = length-replicate {A = AtPlace} places none;
+      onCards = λ i. keep-none i places;
       ends = λ i j e m n. no-both m refl;
       idle = λ d i. refl;
       sized = λ i f. no-both f refl;
@@ -95,7 +95,7 @@ module _ {v : View} {cards : Cards} (g : Agrees v cards) where
         (record {
           tunnel = g .tunnel;
           size = g .size;
-          slots = g .slots;
+          onCards = g .onCards;
           ends = g .ends;
           idle = g .idle;
           sized = g .sized;
@@ -117,10 +117,10 @@ module _ {v : View} {cards : Cards} (g : Agrees v cards) where
       pub others : (j : List ℕ) → same i j ≡ false → cards′ .card j ≡ cards .card j
 
     -- the table, where it passes
-    pub record Stored (table : List Slot) : Type 0 where
+    pub record Stored (table : List AtPlace) : Type 0 where
       pub up : isUp (v .tunnel) ≡ true
       pub size : length table ≡ places
-      pub own : keep (isFor i) table ≡ slotsOn i h
+      pub own : keep (isFor i) table ≡ placesOn i h
       pub others : (j : List ℕ) → same i j ≡ false → keep (isFor j) table ≡ keep (isFor j) (v .table)
       pub ends : (j : List ℕ) (e : ℕ) → same i j ≡ false → holding e h ≡ true → holding e (cards .card j .held) ≡ true → ⊥
       pub sized : filled h ≡ true → length i ≡ width
@@ -138,12 +138,12 @@ module _ {v : View} {cards : Cards} (g : Agrees v cards) where
     refused-agrees : Touched false → Agrees v cards′
     refused-agrees t = unchanged cards′ (t .named) (each t (λ j c. c ≡ cards .card j) refl (λ j q. refl))
 
-    changed-agrees : (table : List Slot) → Touched true → Stored table → Agrees (record { tunnel = v .tunnel; table = table }) cards′
+    changed-agrees : (table : List AtPlace) → Touched true → Stored table → Agrees (record { tunnel = v .tunnel; table = table }) cards′
     changed-agrees table t s =
         record {
           tunnel = each t (λ j c. c .tunnel ≡ v .tunnel) (g .tunnel i) (λ j q. g .tunnel j);
           size = s .size;
-          slots = each t (λ j c. keep (isFor j) table ≡ slotsOn j (c .held)) (s .own) (λ j q. s .others j q ∙ g .slots j);
+          onCards = each t (λ j c. keep (isFor j) table ≡ placesOn j (c .held)) (s .own) (λ j q. s .others j q ∙ g .onCards j);
           ends =
               each t (λ a c. (b : List ℕ) (e : ℕ) → holding e (c .held) ≡ true → holding e (cards′ .card b .held) ≡ true → a ≡ b)
               (each t (λ b c. (e : ℕ) → holding e h ≡ true → holding e (c .held) ≡ true → i ≡ b) (λ e m n. refl) (λ b q e m n. absurd (s .ends b e q m n)))
@@ -157,12 +157,12 @@ module _ {v : View} {cards : Cards} (g : Agrees v cards) where
         }
 
     -- a call that concerns the card of i alone, by a test or by its verdict
-    pub one-card : (table : List Slot) (pass : Bool) → Touched pass → (pass ≡ true → Stored table)
+    pub one-card : (table : List AtPlace) (pass : Bool) → Touched pass → (pass ≡ true → Stored table)
         → Agrees (cond pass (record { tunnel = v .tunnel; table = table }) v) cards′
     one-card table true t s = changed-agrees table t (s refl)
     one-card table false t s = refused-agrees t
 
-    pub one-verdict : (table : List Slot) (w : Verdict) → Touched (accepts w) → (accepts w ≡ true → Stored table)
+    pub one-verdict : (table : List AtPlace) (w : Verdict) → Touched (accepts w) → (accepts w ≡ true → Stored table)
         → Agrees (after w (record { tunnel = v .tunnel; table = table }) v) cards′
     one-verdict table allowed t s = one-card table true t s
     one-verdict table (refusal n) t s = one-card table false t s

@@ -9,7 +9,7 @@ use Rattle.octets.specs.Bounds.{partIn}
 use Rattle.octets.specs.Part.{same}
 use Rattle.octets.proofs.SameLaws.{same-refl}
 use Rattle.octets.proofs.Tests.{by-choice}
-use Rattle.message.specs.Parts.{identifierPlace}
+use Rattle.message.specs.Parts.{identifierBounds}
 use Rattle.message.specs.Profiles.{inList, keysFit, mkiAndSaltsFit}
 use Rattle.message.specs.Read as Read
 use Rattle.message.specs.declared.bodies.Fields.{Fields}
@@ -34,7 +34,7 @@ use Rattle.rules.proofs.AgreesStores.{removed-stored, keyed-stored}
 
 module _ {v : View} {cards : Cards} (g : Agrees v cards) (octets : List ℕ) where
   abbrev i : List ℕ
-  i = partIn octets identifierPlace
+  i = partIn octets identifierBounds
 
   -- the cards after a message, and after a reading
   abbrev fieldsCards : Fields → Cards

@@ -13,15 +13,15 @@ use Rattle.octets.proofs.Tests.{false-true}
 use Rattle.rules.specs.Search as Search
 use Rattle.rules.specs.Search.{keep, Distinct}
 use Rattle.rules.specs.Answer.{Association}
-use Rattle.rules.specs.View.{Slot, View, identifierIn, endpointIn, isFor}
+use Rattle.rules.specs.View.{AtPlace, View, identifierIn, endpointIn, isFor}
 use Rattle.rules.specs.Cards.{Cards, filled, holding, live, endpointLive, allLive}
 use Rattle.rules.specs.CardAnswers.{associationOn}
 use Rattle.rules.specs.Claim.{records, AsCards}
-use Rattle.rules.specs.ViewSteps.{isVacant, isServing, inSlot, has}
+use Rattle.rules.specs.ViewSteps.{isVacant, isServing, associationAt, has}
 use Rattle.rules.proofs.Choices.{bool-ext}
 use Rattle.rules.proofs.KeepLaws.{nonEmpty, kept, keeps, found-some, some-keep, first-found}
 use Rattle.rules.proofs.DistinctLaws.{distinct-le, distinct-keep, distinct-map}
-use Rattle.rules.proofs.Agrees.{Agrees, OnCard, card-on, slots-filled, on-card, holding-filled}
+use Rattle.rules.proofs.Agrees.{Agrees, OnCard, card-on, places-filled, on-card, holding-filled}
 use Rattle.rules.proofs.RecordLaws.{recorded, records-all, records-le, all-taken, distinct-identifiers, few-on, held-on, filled-on}
 
 module _ {v : View} {cards : Cards} (g : Agrees v cards) where
@@ -29,21 +29,21 @@ module _ {v : View} {cards : Cards} (g : Agrees v cards) where
   pub its-card : {a : Association} → List·Memᴰ (some a) (v .table) → OnCard (identifierIn a) (cards .card (identifierIn a) .held) a
   its-card {a} m =
       let i = identifierIn a in
-      on-card i (cards .card i .held) (subst (λ (l : List Slot). List·Memᴰ (some a) l) (g .slots i) (keeps (isFor i) m (same-refl i)))
+      on-card i (cards .card i .held) (subst (λ (l : List AtPlace). List·Memᴰ (some a) l) (g .onCards i) (keeps (isFor i) m (same-refl i)))
 
   -- the association of a filled card is in the table
   pub in-table : (i : List ℕ) → filled (cards .card i .held) ≡ true → List·Memᴰ (some (associationOn i (cards .card i .held))) (v .table)
   in-table i f =
-      let m : List·Memᴰ (some (associationOn i (cards .card i .held))) (keep (isFor i) (v .table)) = rw (g .slots i, slots-filled i (cards .card i .held) f) (List·Memᴰ·head refl) in
+      let m : List·Memᴰ (some (associationOn i (cards .card i .held))) (keep (isFor i) (v .table)) = rw (g .onCards i, places-filled i (cards .card i .held) f) (List·Memᴰ·head refl) in
       kept (isFor i) (v .table) m .0
 
   -- 11, 6: an identifier is live where its card is filled
   pub known-is : (i : List ℕ) → has (isFor i) v ≡ filled (cards .card i .held)
-  known-is i = some-keep (isFor i) (v .table) ∙ ap nonEmpty (g .slots i) ∙ filled-on i (cards .card i .held)
+  known-is i = some-keep (isFor i) (v .table) ∙ ap nonEmpty (g .onCards i) ∙ filled-on i (cards .card i .held)
 
   -- what serves an endpoint is on a card that holds it
-  pub serving-card : (e : ℕ) (s : Slot) → List·Memᴰ s (v .table) → isServing e s ≡ true
-      → OnCard (identifierIn (inSlot s)) (cards .card (identifierIn (inSlot s)) .held) (inSlot s) × (holding e (cards .card (identifierIn (inSlot s)) .held) ≡ true)
+  pub serving-card : (e : ℕ) (s : AtPlace) → List·Memᴰ s (v .table) → isServing e s ≡ true
+      → OnCard (identifierIn (associationAt s)) (cards .card (identifierIn (associationAt s)) .held) (associationAt s) × (holding e (cards .card (identifierIn (associationAt s)) .held) ≡ true)
   serving-card e none m h = absurd (false-true h)
   serving-card e (some a) m h = let c = its-card m in (c, sym (c .endpoint e) ∙ h)
 
@@ -70,7 +70,7 @@ module _ {v : View} {cards : Cards} (g : Agrees v cards) where
   -- ---- as many cards are filled as there are records
 
   identifiers-distinct : Distinct (map identifierIn (records (v .table)))
-  identifiers-distinct = distinct-identifiers (v .table) (λ i. rw (g .slots i) (few-on i (cards .card i .held)))
+  identifiers-distinct = distinct-identifiers (v .table) (λ i. rw (g .onCards i) (few-on i (cards .card i .held)))
 
   live-distinct : Distinct (live cards)
   live-distinct = distinct-keep (λ i. filled (cards .card i .held)) (cards .opening) (g .once)
@@ -112,7 +112,7 @@ agrees-cards v cards g =
       tunnel = g .tunnel;
       size = g .size;
       idle = g .idle;
-      held = λ i. rw (g .slots i) (held-on i (cards .card i .held));
+      held = λ i. rw (g .onCards i) (held-on i (cards .card i .held));
       sized = g .sized;
       counted = λ i. (counted g i, live-filled g i);
       once = live-distinct g;

@@ -21,7 +21,7 @@ use Rattle.rules.specs.Refusals.{wrongWidth, noRoom, startMessage}
 use Rattle.rules.specs.View.{View, isFor}
 use Rattle.rules.specs.Cards as Cards
 use Rattle.rules.specs.Cards.{blank, opened, Cards, filled, endpointLive, allLive}
-use Rattle.rules.specs.ViewSteps.{isVacant, withSlot, downView, upView, isDown, startVerdict, openVerdict, closeVerdict, viewStep}
+use Rattle.rules.specs.ViewSteps.{isVacant, setFirst, downView, upView, isDown, startVerdict, openVerdict, closeVerdict, viewStep}
 use Rattle.rules.proofs.Choices.{chosen}
 use Rattle.rules.proofs.NamingLaws.{naming-more, naming-once, naming-here}
 use Rattle.rules.proofs.Accepting.{accepts, by-verdict, passes, start-accepts, open-accepts, close-accepts}
@@ -68,7 +68,7 @@ module _ {v : View} {cards : Cards} (g : Agrees v cards) where
         let w : length i ≡ width = eqb-true (length i) width (not-false _ (p20 .0)) in
         open-stored g i _ e (not-false _ (p1 .0)) w (p11 .0) (p12 .0) (not-false _ (full-is g ∙ p10 .0)) (naming-here i (cards .opening) w)
 
-    open-step : Agrees (after (openVerdict v i e) (withSlot isVacant (some (Answer.opened i e)) v) v) (Cards.next cards (Call.opening i e))
+    open-step : Agrees (after (openVerdict v i e) (setFirst isVacant (some (Answer.opened i e)) v) v) (Cards.next cards (Call.opening i e))
     unfolding Cards.next Cards.cardNext Cards.openingNext
     open-step =
         one-verdict g i (opened e) _ _ (openVerdict v i e)
@@ -94,7 +94,7 @@ module _ {v : View} {cards : Cards} (g : Agrees v cards) where
         let p20 = passes (wrongWidth i) 20 _ (p1 .1) in
         not-false _ (passes (not (filled (cards .card i .held))) 6 _ (p20 .1) .0)
 
-    close-step : Agrees (after (closeVerdict v i room) (withSlot (isFor i) none v) v) (Cards.next cards (Call.close i room))
+    close-step : Agrees (after (closeVerdict v i room) (setFirst (isFor i) none v) v) (Cards.next cards (Call.close i room))
     unfolding Cards.next Cards.cardNext Cards.openingNext
     close-step =
         one-verdict g i blank _ _ (closeVerdict v i room)

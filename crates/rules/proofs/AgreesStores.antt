@@ -14,23 +14,23 @@ use Rattle.rules.specs.Keys.{Keys}
 use Rattle.rules.specs.Tunnel.{isUp}
 use Rattle.rules.specs.Answer as Answer
 use Rattle.rules.specs.Answer.{Association}
-use Rattle.rules.specs.View.{Slot, View, identifierIn, isFor}
+use Rattle.rules.specs.View.{AtPlace, View, identifierIn, isFor}
 use Rattle.rules.specs.Cards.{Held, blank, opened, keyed, Cards, filled, holding, endpointLive, withKeys}
 use Rattle.rules.specs.CardAnswers.{associationOn}
-use Rattle.rules.specs.ViewSteps.{isVacant, inSlot, has, firstWith, rekey}
+use Rattle.rules.specs.ViewSteps.{isVacant, associationAt, has, firstWith, rekey}
 use Rattle.rules.proofs.Choices.{no-both, by-test, chosen}
 use Rattle.rules.proofs.KeepLaws.{found-some, first-lt, first-found, first-is, keep-set-neither, keep-set-new, keep-set-first}
-use Rattle.rules.proofs.Agrees.{Agrees, slotsOn, card-on, slots-filled, slots-blank, holding-filled}
+use Rattle.rules.proofs.Agrees.{Agrees, placesOn, card-on, places-filled, places-blank, holding-filled}
 use Rattle.rules.proofs.AgreesSays.{known-is}
 use Rattle.rules.proofs.AgreesChange.{Stored}
 
 -- ---- places of other identifiers
 
-other : (i j : List ℕ) (s : Slot) → same i j ≡ false → isFor i s ≡ true → isFor j s ≡ false
+other : (i j : List ℕ) (s : AtPlace) → same i j ≡ false → isFor i s ≡ true → isFor j s ≡ false
 other i j none f h = refl
 other i j (some a) f h = rw (same-true (identifierIn a) i h) f
 
-vacant-for : (j : List ℕ) (s : Slot) → isVacant s ≡ true → isFor j s ≡ false
+vacant-for : (j : List ℕ) (s : AtPlace) → isVacant s ≡ true → isFor j s ≡ false
 vacant-for j none h = refl
 vacant-for j (some a) h = no-both h refl
 
@@ -45,10 +45,10 @@ keyed-holding k e blank t = t
 keyed-holding k e (opened x) t = t
 keyed-holding k e (keyed x old) t = t
 
-slots-keyed : (i : List ℕ) (k : Keys) (h : Held) → filled h ≡ true → slotsOn i (withKeys k h) ≡ some (rekey k (associationOn i h)) ∷ []
-slots-keyed i k blank f = no-both f refl
-slots-keyed i k (opened x) f = refl
-slots-keyed i k (keyed x old) f = refl
+places-keyed : (i : List ℕ) (k : Keys) (h : Held) → filled h ≡ true → placesOn i (withKeys k h) ≡ some (rekey k (associationOn i h)) ∷ []
+places-keyed i k blank f = no-both f refl
+places-keyed i k (opened x) f = refl
+places-keyed i k (keyed x old) f = refl
 
 module _ {v : View} {cards : Cards} (g : Agrees v cards) (i : List ℕ) (cards′ : Cards) where
   -- ---- Open
@@ -60,7 +60,7 @@ module _ {v : View} {cards : Cards} (g : Agrees v cards) (i : List ℕ) (cards�
         record {
           up = u;
           size = length-set (v .table) at new ∙ g .size;
-          own = keep-set-new (isFor i) (v .table) at new (g .slots i ∙ slots-blank i (cards .card i .held) f) (first-lt isVacant (v .table) r) (same-refl i);
+          own = keep-set-new (isFor i) (v .table) at new (g .onCards i ∙ places-blank i (cards .card i .held) f) (first-lt isVacant (v .table) r) (same-refl i);
           others = λ j q. keep-set-neither (isFor j) (v .table) at new none (vacant-for j (getD (v .table) at none) (first-found isVacant none (v .table) r .1)) q;
           ends = ends;
           sized = λ _. w;
@@ -70,7 +70,7 @@ module _ {v : View} {cards : Cards} (g : Agrees v cards) (i : List ℕ) (cards�
         at : ℕ
         at = first isVacant (v .table)
 
-        new : Slot
+        new : AtPlace
         new = some (Answer.opened i e)
 
         -- no card has this endpoint
@@ -88,13 +88,13 @@ module _ {v : View} {cards : Cards} (g : Agrees v cards) (i : List ℕ) (cards�
     its-up : isUp (v .tunnel) ≡ true
     its-up = by-test (λ b. b ≡ true) (isUp (v .tunnel)) (λ e. refl) (λ e. no-both f (g .idle e i))
 
-    its-slot : keep (isFor i) (v .table) ≡ some (associationOn i (cards .card i .held)) ∷ []
-    its-slot = g .slots i ∙ slots-filled i (cards .card i .held) f
+    its-record : keep (isFor i) (v .table) ≡ some (associationOn i (cards .card i .held)) ∷ []
+    its-record = g .onCards i ∙ places-filled i (cards .card i .held) f
 
     its-place : isFor i (getD (v .table) at none) ≡ true
     its-place = first-found (isFor i) none (v .table) (known-is g i ∙ f) .1
 
-    replaced-others : (y : Slot) → ((j : List ℕ) → same i j ≡ false → isFor j y ≡ false)
+    replaced-others : (y : AtPlace) → ((j : List ℕ) → same i j ≡ false → isFor j y ≡ false)
         → (j : List ℕ) → same i j ≡ false → keep (isFor j) (set (v .table) at y) ≡ keep (isFor j) (v .table)
     replaced-others y n j q = keep-set-neither (isFor j) (v .table) at y none (other i j (getD (v .table) at none) q its-place) (n j q)
 
@@ -104,7 +104,7 @@ module _ {v : View} {cards : Cards} (g : Agrees v cards) (i : List ℕ) (cards�
         record {
           up = its-up;
           size = length-set (v .table) at none ∙ g .size;
-          own = keep-set-first (isFor i) (v .table) none its-slot;
+          own = keep-set-first (isFor i) (v .table) none its-record;
           others = replaced-others none (λ j q. refl);
           ends = λ j e q s t. no-both s refl;
           sized = λ s. no-both s refl;
@@ -125,14 +125,14 @@ module _ {v : View} {cards : Cards} (g : Agrees v cards) (i : List ℕ) (cards�
           among = λ _. m;
         }
       where
-        new : Slot
+        new : AtPlace
         new = some (rekey k (firstWith (isFor i) v))
 
         its-new : isFor i new ≡ true
-        its-new = rw (first-is (isFor i) none (v .table) its-slot, rekey-for k (associationOn i (cards .card i .held)), card-on i (cards .card i .held) f .identifier) (same-refl i)
+        its-new = rw (first-is (isFor i) none (v .table) its-record, rekey-for k (associationOn i (cards .card i .held)), card-on i (cards .card i .held) f .identifier) (same-refl i)
 
-        stored : keep (isFor i) (set (v .table) at new) ≡ slotsOn i (withKeys k (cards .card i .held))
+        stored : keep (isFor i) (set (v .table) at new) ≡ placesOn i (withKeys k (cards .card i .held))
         stored =
-            keep-set-first (isFor i) (v .table) new its-slot ∙ chosen (new ∷ []) [] its-new
-            ∙ ap (λ (s : Slot). some (rekey k (inSlot s)) ∷ []) (first-is (isFor i) none (v .table) its-slot)
-            ∙ sym (slots-keyed i k (cards .card i .held) f)
+            keep-set-first (isFor i) (v .table) new its-record ∙ chosen (new ∷ []) [] its-new
+            ∙ ap (λ (s : AtPlace). some (rekey k (associationAt s)) ∷ []) (first-is (isFor i) none (v .table) its-record)
+            ∙ sym (places-keyed i k (cards .card i .held) f)

@@ -9,8 +9,8 @@ use Rattle.rules.specs.Table.{step, run, answer, answers}
 use Rattle.rules.specs.View.{view}
 use Rattle.rules.specs.Cards as Cards
 use Rattle.rules.specs.Cards.{fed, next}
-use Rattle.rules.specs.CardAnswers.{due, dues}
-use Rattle.rules.specs.Claim.{Claim, Handed, apart, handedBy, handout, handouts, handedDue, handedDues}
+use Rattle.rules.specs.CardAnswers.{expected, expectedAnswers}
+use Rattle.rules.specs.Claim.{Claim, Handed, exceptPlace, handedBy, handout, handouts, expectedHandout, expectedHandouts}
 use Rattle.rules.proofs.Legal.{Legal}
 use Rattle.rules.proofs.ViewLaws.{legal-down, view-down, legal-step, view-step, view-answer}
 use Rattle.rules.proofs.Agrees.{Agrees}
@@ -19,6 +19,7 @@ use Rattle.rules.proofs.AgreesSays.{agrees-cards}
 use Rattle.rules.proofs.AgreesSteps.{agrees-step}
 use Rattle.rules.proofs.AgreesAnswers.{agrees-answer}
 use Rattle.rules.proofs.AgreesHanded.{agrees-handed}
+use Rattle.rules.proofs.LowestPlace.{legal-openings}
 
 -- a block that is legal and as the cards say, seen through its view
 pub record Kept (s : List ℕ) (cards : Cards.Cards) : Type 0 where
@@ -35,11 +36,11 @@ module _ {s : List ℕ} {cards : Cards.Cards} (k : Kept s cards) where
     agrees = subst (λ v. Agrees v (next cards c)) (sym (view-step s (k .legal) c)) (agrees-step (view s) cards (k .agrees) c);
   }
 
-  kept-answer : (c : Call.Call) → apart (answer s c) ≡ due cards c
-  kept-answer c = ap apart (view-answer s (k .legal) c) ∙ agrees-answer (view s) cards (k .agrees) c
+  kept-answer : (c : Call.Call) → exceptPlace (answer s c) ≡ expected cards c
+  kept-answer c = ap exceptPlace (view-answer s (k .legal) c) ∙ agrees-answer (view s) cards (k .agrees) c
 
-  kept-handed : (c : Call.Call) → handout s c ≡ handedDue cards c
-  unfolding handout handedDue
+  kept-handed : (c : Call.Call) → handout s c ≡ expectedHandout cards c
+  unfolding handout expectedHandout
   kept-handed (Call.start list room) = refl
   kept-handed (Call.opening i e) = refl
   kept-handed (Call.boothPacket e packet room) = refl
@@ -56,14 +57,14 @@ unfolding run fed
 kept-run [] s cards k = k
 kept-run (c ∷ cs) s cards k = kept-run cs (step s c) (next cards c) (kept-step k c)
 
-kept-answers : (calls : List Call.Call) (s : List ℕ) (cards : Cards.Cards) → Kept s cards → map apart (answers s calls) ≡ dues cards calls
-unfolding answers dues
+kept-answers : (calls : List Call.Call) (s : List ℕ) (cards : Cards.Cards) → Kept s cards → map exceptPlace (answers s calls) ≡ expectedAnswers cards calls
+unfolding answers expectedAnswers
 kept-answers [] s cards k = refl
 kept-answers (c ∷ cs) s cards k =
     ap₂ (λ (a : Answer) (l : List Answer). a ∷ l) (kept-answer k c) (kept-answers cs (step s c) (next cards c) (kept-step k c))
 
-kept-handouts : (calls : List Call.Call) (s : List ℕ) (cards : Cards.Cards) → Kept s cards → handouts s calls ≡ handedDues cards calls
-unfolding handouts handedDues
+kept-handouts : (calls : List Call.Call) (s : List ℕ) (cards : Cards.Cards) → Kept s cards → handouts s calls ≡ expectedHandouts cards calls
+unfolding handouts expectedHandouts
 kept-handouts [] s cards k = refl
 kept-handouts (c ∷ cs) s cards k =
     ap₂ (λ (h : Handed) (l : List Handed). h ∷ l) (kept-handed k c) (kept-handouts cs (step s c) (next cards c) (kept-step k c))
@@ -73,4 +74,5 @@ claim calls = record {
   state = agrees-cards _ _ (kept-run calls downBlock Cards.first kept-first .agrees);
   deliveries = kept-handouts calls downBlock Cards.first kept-first;
   answered = kept-answers calls downBlock Cards.first kept-first;
+  openings = legal-openings calls downBlock legal-down;
 }

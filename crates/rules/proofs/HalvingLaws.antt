@@ -38,7 +38,7 @@ module _ (numberAt : ℕ → ℕ) (sought : ℕ) where
       let m : n - n / 2 ≤ 1 = omega arith in
       halved-one k _ (n - n / 2) m ∙ nearer-same (numberAt (lo + n / 2)) sought lo (lo + n / 2) (omega arith)
 
-  -- the place that is left is among the numbers, whatever they are
+  -- the position that is left is among the numbers, whatever they are
   pub halved-within : (k lo n : ℕ) → 0 < n → halved k numberAt sought lo n < lo + n
   unfolding halved
   halved-within zero lo n h = omega arith
@@ -254,7 +254,7 @@ module _ (sought : ℕ) where
       each zero b u = u
       each (suc i) b u = over-at sought l (over-less sought x u l (r .0)) i (le-of-suc-le-suc b)
 
--- where a function says the same of each place below
+-- where a function says the same of each position below
 tells-same : (f g : ℕ → ℕ) (sought n : ℕ) → ((i : ℕ) → i < n → f i ≡ g i) → (s : Spot) → Tells g sought 0 n s → Tells f sought 0 n s
 tells-same f g sought n e (here at) t = record {
   from = t .from;

@@ -15,7 +15,7 @@ use Rattle.rules.specs.Index.{indexOctets}
 use Rattle.rules.specs.Answer.{Association}
 use Rattle.rules.specs.Table.{associationOf}
 use Rattle.rules.specs.View as Tunnel
-use Rattle.rules.specs.View.{Slot, slotOf, view, endpointIn}
+use Rattle.rules.specs.View.{AtPlace, inRow, view, endpointIn}
 use Rattle.rules.proofs.Entries.{Apart}
 use Rattle.rules.proofs.Cases.{by-test}
 use Rattle.rules.proofs.RowsLaws.{Sized, rows-length, rows-with, rows-front, over-front}
@@ -25,11 +25,11 @@ use Rattle.rules.proofs.IndexTable as Index
 use Rattle.rules.proofs.Legal.{Legal}
 use Rattle.rules.proofs.ViewTests.{association-endpoint}
 
--- ---- what a slot tells of its row
+-- ---- what stands at a place tells of its row
 
-pub slot-tells : (r : List ℕ) (a : Association) → slotOf r ≡ some a → (live r ≡ true) × (endpointOf r ≡ endpointIn a)
-unfolding slotOf
-slot-tells r a e = by-test (live r)
+pub row-tells : (r : List ℕ) (a : Association) → inRow r ≡ some a → (live r ≡ true) × (endpointOf r ≡ endpointIn a)
+unfolding inRow
+row-tells r a e = by-test (live r)
     (λ h. (h, sym (association-endpoint r) ∙ ap endpointIn (inside h e)))
     (λ h. absurd (outside h e))
   where
@@ -116,5 +116,5 @@ module _ (s : List ℕ) (g : Legal s) (at : ℕ) (h : at < places) (r : List ℕ
     pub follows-view : view t ≡ view (withRow s at r)
     unfolding view
     follows-view =
-        ap₂ (λ tunnel (l : List Slot). record { tunnel = tunnel; table = l })
-        (ap Tunnel.tunnelOf new ∙ tunnel-front frontWith _ _ (k .index .size) ∙ sym (ap Tunnel.tunnelOf old)) (ap (map slotOf) rows-same)
+        ap₂ (λ tunnel (l : List AtPlace). record { tunnel = tunnel; table = l })
+        (ap Tunnel.tunnelOf new ∙ tunnel-front frontWith _ _ (k .index .size) ∙ sym (ap Tunnel.tunnelOf old)) (ap (map inRow) rows-same)

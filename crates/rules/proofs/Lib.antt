@@ -41,7 +41,11 @@ pub mod AgreesOctets
 pub mod AgreesSteps
 pub mod AgreesAnswers
 pub mod AgreesHanded
+pub mod LowestPlace
 pub mod Claimed
 pub mod KeysMean
 pub mod Refused
 pub mod LookedUp
+pub mod Taken
+pub mod GoodLists
+pub mod SingleTests

@@ -9,18 +9,19 @@ use Rattle.message.specs.Frame as Frame
 use Rattle.message.specs.Body as Body
 use Rattle.message.specs.Walk.{complete, fixed, profileList, begin}
 use Rattle.message.specs.Read as Read
+use Rattle.message.specs.Direction.{ofKinds}
 use Rattle.message.specs.Parts.{meaning}
 use Rattle.message.specs.declared.framing.Kind.{Kind}
 use Rattle.message.specs.declared.bodies.Fields.the-variants.{SupportedProfiles}
-use Rattle.rules.specs.Refusals.{ofProfiles, receiving}
+use Rattle.rules.specs.Refusals.{isProfiles, receiving}
 use Rattle.rules.specs.Answer.{refused}
 use Rattle.rules.specs.Cards.{Card, Cards, readCard}
-use Rattle.rules.specs.CardAnswers.{readDue, octetsDue}
+use Rattle.rules.specs.CardAnswers.{readExpected, octetsExpected}
 use Rattle.rules.specs.Claim.{nothing, handedRead}
 
 -- by whether a whole message of type 1 is at the front
 pub by-profiles : {X : Type 0} (P : X → Type 0) (f : Frame.Framing) (x : ℕ → X) (y : X)
-    → ((n : ℕ) → f ≡ Frame.whole Kind.SupportedProfiles n → P (x n)) → P y → P (ofProfiles f x y)
+    → ((n : ℕ) → f ≡ Frame.whole Kind.SupportedProfiles n → P (x n)) → P y → P (ofKinds isProfiles f x y)
 by-profiles P Frame.moreNeeded x y g h = h
 by-profiles P (Frame.refused number taken) x y g h = h
 by-profiles P (Frame.version number) x y g h = h
@@ -32,7 +33,7 @@ by-profiles P (Frame.whole Kind.EndpointDisconnect n) x y g h = h
 by-profiles P (Frame.whole Kind.Unlisted n) x y g h = h
 
 -- what is made of either
-pub of-profiles : {X Y : Type 0} (g : X → Y) (f : Frame.Framing) (x : ℕ → X) (y : X) → g (ofProfiles f x y) ≡ ofProfiles f (λ n. g (x n)) (g y)
+pub of-profiles : {X Y : Type 0} (g : X → Y) (f : Frame.Framing) (x : ℕ → X) (y : X) → g (ofKinds isProfiles f x y) ≡ ofKinds isProfiles f (λ n. g (x n)) (g y)
 of-profiles g Frame.moreNeeded x y = refl
 of-profiles g (Frame.refused number taken) x y = refl
 of-profiles g (Frame.version number) x y = refl
@@ -73,6 +74,6 @@ module _ (cards : Cards) (octets : List ℕ) where
       (λ n e. rw e (profiles-handed n)) refl
 
   -- what is answered
-  pub due-reads : readDue cards octets (receiving octets) ≡ octetsDue cards octets (Frame.frame octets)
+  pub expected-reads : readExpected cards octets (receiving octets) ≡ octetsExpected cards octets (Frame.frame octets)
   unfolding receiving
-  due-reads = of-profiles (readDue cards octets) (Frame.frame octets) _ _
+  expected-reads = of-profiles (readExpected cards octets) (Frame.frame octets) _ _

@@ -14,35 +14,35 @@ use Rattle.octets.proofs.Tests.{by-choice}
 use Rattle.rules.specs.Search as Search
 use Rattle.rules.specs.Search.{keep, Distinct}
 use Rattle.rules.specs.Answer.{Association}
-use Rattle.rules.specs.View.{Slot, identifierIn, isFor}
+use Rattle.rules.specs.View.{AtPlace, identifierIn, isFor}
 use Rattle.rules.specs.Cards.{Held, blank, opened, keyed, filled}
 use Rattle.rules.specs.Claim.{heldIn, heldOn, records}
 use Rattle.rules.specs.ViewSteps.{isVacant}
 use Rattle.rules.proofs.KeepLaws.{nonEmpty, keeps}
-use Rattle.rules.proofs.Agrees.{slotsOn}
+use Rattle.rules.proofs.Agrees.{placesOn}
 
-pub recorded : {a : Association} (l : List Slot) → List·Memᴰ a (records l) → List·Memᴰ (some a) l
+pub recorded : {a : Association} (l : List AtPlace) → List·Memᴰ a (records l) → List·Memᴰ (some a) l
 unfolding records
 recorded [] m = absurd (List·Memᴰ·not-nil m)
 recorded (none ∷ l) m = List·Memᴰ·tail (recorded l m)
 recorded (some b ∷ l) (List·Memᴰ·head q) = List·Memᴰ·head (ap some q)
 recorded (some b ∷ l) (List·Memᴰ·tail m) = List·Memᴰ·tail (recorded l m)
 
-pub records-all : {a : Association} (l : List Slot) → List·Memᴰ (some a) l → List·Memᴰ a (records l)
+pub records-all : {a : Association} (l : List AtPlace) → List·Memᴰ (some a) l → List·Memᴰ a (records l)
 unfolding records
 records-all (none ∷ l) (List·Memᴰ·head q) = absurd (Option·some-ne-none _ q)
 records-all (none ∷ l) (List·Memᴰ·tail m) = records-all l m
 records-all (some b ∷ l) (List·Memᴰ·head q) = List·Memᴰ·head (Option·some-injective _ _ q)
 records-all (some b ∷ l) (List·Memᴰ·tail m) = List·Memᴰ·tail (records-all l m)
 
-pub records-le : (l : List Slot) → length (records l) ≤ length l
+pub records-le : (l : List AtPlace) → length (records l) ≤ length l
 unfolding records
 records-le [] = omega arith
 records-le (none ∷ l) = omega (arith, records-le l)
 records-le (some a ∷ l) = omega (arith, records-le l)
 
 -- no place is vacant exactly where there are as many records as places
-pub all-taken : (l : List Slot) → not (Search.someOf isVacant l) ≡ eqb (length (records l)) (length l)
+pub all-taken : (l : List AtPlace) → not (Search.someOf isVacant l) ≡ eqb (length (records l)) (length l)
 unfolding records Search.someOf
 all-taken [] = refl
 all-taken (none ∷ l) = sym (ne-eqb (length (records l)) (suc (length l)) (λ q. omega (arith, records-le l)))
@@ -52,12 +52,12 @@ mem-length : {A : Type 0} {a : A} {l : List A} → List·Memᴰ a l → 1 ≤ le
 mem-length (List·Memᴰ·head q) = omega arith
 mem-length (List·Memᴰ·tail m) = omega arith
 
-keep-tail : (p : Slot → Bool) (s : Slot) (l : List Slot) → length (keep p l) ≤ length (keep p (s ∷ l))
+keep-tail : (p : AtPlace → Bool) (s : AtPlace) (l : List AtPlace) → length (keep p l) ≤ length (keep p (s ∷ l))
 unfolding keep
-keep-tail p s l = by-choice (λ (k : List Slot). length (keep p l) ≤ length k) (p s) _ _ (λ e. omega arith) (λ e. omega arith)
+keep-tail p s l = by-choice (λ (k : List AtPlace). length (keep p l) ≤ length k) (p s) _ _ (λ e. omega arith) (λ e. omega arith)
 
 -- records differ in identifier where no two are for one
-pub distinct-identifiers : (l : List Slot) → ((i : List ℕ) → length (keep (isFor i) l) ≤ 1) → Distinct (map identifierIn (records l))
+pub distinct-identifiers : (l : List AtPlace) → ((i : List ℕ) → length (keep (isFor i) l) ≤ 1) → Distinct (map identifierIn (records l))
 unfolding records keep
 distinct-identifiers [] f = tt
 distinct-identifiers (none ∷ l) f = distinct-identifiers l f
@@ -75,18 +75,18 @@ distinct-identifiers (some a ∷ l) f = (out, distinct-identifiers l (λ i. le-t
 
 -- ---- the places of a card
 
-pub few-on : (i : List ℕ) (h : Held) → length (slotsOn i h) ≤ 1
+pub few-on : (i : List ℕ) (h : Held) → length (placesOn i h) ≤ 1
 few-on i blank = omega arith
 few-on i (opened e) = omega arith
 few-on i (keyed e k) = omega arith
 
-pub held-on : (i : List ℕ) (h : Held) → map heldIn (records (slotsOn i h)) ≡ heldOn h
+pub held-on : (i : List ℕ) (h : Held) → map heldIn (records (placesOn i h)) ≡ heldOn h
 unfolding records
 held-on i blank = refl
 held-on i (opened e) = refl
 held-on i (keyed e k) = refl
 
-pub filled-on : (i : List ℕ) (h : Held) → nonEmpty (slotsOn i h) ≡ filled h
+pub filled-on : (i : List ℕ) (h : Held) → nonEmpty (placesOn i h) ≡ filled h
 filled-on i blank = refl
 filled-on i (opened e) = refl
 filled-on i (keyed e k) = refl

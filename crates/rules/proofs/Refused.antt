@@ -1,4 +1,4 @@
--- A refused call changes nothing, but refusal 2, which only Tunnel octets gives: it ends the tunnel and empties the table.
+-- A refused call changes nothing, but refusal 2, which only Tunnel octets gives: it ends the tunnel and empties the table. Nor does "more needed" change anything.
 use Prim.Native.Nat.{ℕ}
 use mathlib.Core.Path.{_≡_, refl, sym, ap, _∙_}
 use mathlib.Core.Bool.{Bool, true, false, cond, not}
@@ -6,33 +6,24 @@ use mathlib.Core.List.{List}
 use lib.Dec.{eqb}
 use Rattle.octets.specs.Bounds.{partIn}
 use Rattle.message.specs.Message.{encode, endpointDisconnect}
-use Rattle.message.specs.Parts.{identifierPlace, dtlsPlace}
+use Rattle.message.specs.Parts.{identifierBounds, dtlsBounds}
 use Rattle.message.specs.Profiles.{goodList}
 use Rattle.message.specs.Read as Read
 use Rattle.message.specs.declared.bodies.Fields.{Fields}
 use Rattle.message.specs.declared.bodies.Fields.the-variants.{SupportedProfiles, UnsupportedVersion, MediaKeys, TunneledDtls, EndpointDisconnect}
 use Rattle.rules.specs.Call as Call
-use Rattle.rules.specs.Layout.{up, rowOf, endpointOf, openRow, withRow, downBlock, upBlock}
-use Rattle.rules.specs.Index.{withEntry}
+use Rattle.rules.specs.Layout.{up, rowOf, endpointOf, downBlock, upBlock}
 use Rattle.rules.specs.Verdict.{Verdict, allowed, refusal, after}
-use Rattle.rules.specs.Answer.{Answer, refused, moreNeeded, wrote, placed, ended, found, keysStored, delivery, removed, version, answered}
+use Rattle.rules.specs.Answer.{Answer, refused, wrote, placed, ended, found, keysStored, delivery, removed, byAnswer, answered}
 use Rattle.rules.specs.Refusals.{wrongWidth, noRoom, notDtls, tooLong, startMessage, receiving}
 use Rattle.rules.specs.Table as Table
 use Rattle.rules.specs.Table.{answer, step, knows, serves, hasRoom, without, packetMessage}
+use Rattle.rules.specs.Unchanged.{RefusedKeeps, MoreNeededKeeps}
 use Rattle.rules.proofs.VerdictLaws.{Avoids, avoids, keys-avoid}
 
--- the block after a call, by its answer: of a refusal it is settled
+-- the block after a call, by its answer: of a refusal and of "more needed" it is settled
 abbrev leaves : Answer → (old new : List ℕ) → List ℕ
-leaves (refused number taken) old new = cond (eqb number 2) downBlock old
-leaves moreNeeded old new = new
-leaves (wrote octets) old new = new
-leaves (placed place) old new = new
-leaves ended old new = new
-leaves (found a) old new = new
-leaves (keysStored taken) old new = new
-leaves (delivery endpoint dtls taken) old new = new
-leaves (removed taken) old new = new
-leaves (version number taken) old new = new
+leaves a old new = byAnswer (λ number taken. cond (eqb number 2) downBlock old) old (λ place. new) (λ endpoint dtls taken. new) (λ taken. new) a
 
 module _ (s : List ℕ) where
   by-verdict : (v : Verdict) → Avoids 2 v → (taken : ℕ) (a : Answer) (new : List ℕ) → leaves a s new ≡ new
@@ -64,10 +55,10 @@ module _ (s : List ℕ) where
   by-fields octets (SupportedProfiles v n) taken = refl
   by-fields octets (UnsupportedVersion v) taken = refl
   by-fields octets (MediaKeys profile k) taken =
-      let i = partIn octets identifierPlace in
-      by-verdict (Table.keysVerdict s i profile k) (keys-avoid 2 refl refl refl refl s i profile k) taken (keysStored taken) (Table.rekeyed s i octets profile k) refl
-  by-fields octets (TunneledDtls n) taken = by-endpoint (knows s (partIn octets identifierPlace)) taken (delivery (endpointOf (rowOf s (Table.placeOfIdentifier s (partIn octets identifierPlace)))) (dtlsPlace n) taken) refl
-  by-fields octets EndpointDisconnect taken = by-known (knows s (partIn octets identifierPlace)) taken (removed taken) (without s (partIn octets identifierPlace)) refl
+      let i = partIn octets identifierBounds in
+      by-verdict (Table.keysVerdict s i profile k) (keys-avoid 2 refl refl refl refl s i profile k) taken (keysStored (Table.endpointFor s i) taken) (Table.rekeyed s i octets profile k) refl
+  by-fields octets (TunneledDtls n) taken = by-endpoint (knows s (partIn octets identifierBounds)) taken (delivery (endpointOf (rowOf s (Table.placeOfIdentifier s (partIn octets identifierBounds)))) (dtlsBounds n) taken) refl
+  by-fields octets EndpointDisconnect taken = by-known (knows s (partIn octets identifierBounds)) taken (removed (Table.endpointFor s (partIn octets identifierBounds)) taken) (without s (partIn octets identifierBounds)) refl
 
   by-read : (octets : List ℕ) (r : Read.Answer) → leaves (Table.readAnswer s octets r) s (Table.readNext s octets r) ≡ Table.readNext s octets r
   by-read octets Read.moreNeeded = refl
@@ -108,12 +99,15 @@ module _ (s : List ℕ) where
   left : (c : Call.Call) → leaves (answer s c) s (step s c) ≡ step s c
   unfolding answer step Table.startAnswer Table.startNext Table.openAnswer Table.openNext Table.packetAnswer Table.closeAnswer Table.closeNext Table.endAnswer Table.endNext Table.lookAnswer Table.octetsAnswer Table.octetsNext
   left (Call.start list room) = by-verdict (Table.startVerdict s list room) (start-avoids list room) 0 (wrote (encode (startMessage list))) (upBlock list) refl
-  left (Call.opening i e) = by-verdict (Table.openVerdict s i e) (open-avoids i e) 0 (placed (Table.vacantPlace s)) (withEntry (withRow s (Table.vacantPlace s) (openRow i e)) e (Table.vacantPlace s)) refl
+  left (Call.opening i e) = by-verdict (Table.openVerdict s i e) (open-avoids i e) 0 (placed _) _ refl
   left (Call.boothPacket e packet room) = by-reading (Table.packetVerdict s e packet room) (packet-avoids e packet room) (wrote (encode (packetMessage s e packet))) refl
   left (Call.tunnelOctets octets) = by-octets (up s) octets (receiving octets)
   left (Call.close i room) = by-verdict (Table.closeVerdict s i room) (close-avoids i room) 0 (wrote (encode (endpointDisconnect i))) (without s i) refl
   left Call.end = by-end (up s)
   left (Call.look e) = by-reading (Table.lookVerdict s e) (look-avoids e) (found (Table.associationOf (rowOf s (Table.placeOfEndpoint s e)))) refl
 
-pub refused-keeps : (s : List ℕ) (c : Call.Call) (number taken : ℕ) → answer s c ≡ refused number taken → step s c ≡ cond (eqb number 2) downBlock s
+pub refused-keeps : (s : List ℕ) (c : Call.Call) → RefusedKeeps s c
 refused-keeps s c number taken e = sym (left s c) ∙ ap (λ (a : Answer). leaves a s (step s c)) e
+
+pub more-needed-keeps : (s : List ℕ) (c : Call.Call) → MoreNeededKeeps s c
+more-needed-keeps s c e = sym (left s c) ∙ ap (λ (a : Answer). leaves a s (step s c)) e

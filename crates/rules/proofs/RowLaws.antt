@@ -16,20 +16,20 @@ use Rattle.rules.specs.Keys.{Keys}
 use Rattle.rules.specs.Layout.{stateAt, identifierAt, endpointAt, profileAt, mkiAt, clientKeyAt, serverKeyAt, clientSaltAt, serverSaltAt, rowLength, live, identifierOf, endpointOf, keysOf, field, padded, octetsOf16, octetsOf32, vacantRow, openRow, keyedRow}
 use Rattle.rules.specs.Answer.{opened, keyed}
 use Rattle.rules.specs.Table.{associationOf}
-use Rattle.rules.specs.View.{slotOf}
+use Rattle.rules.specs.View.{inRow}
 use Rattle.rules.proofs.FieldLaws.{padded-length, padded-whole, holds-field, holds-number16, holds-number32}
 use Rattle.rules.proofs.FrontLaws.{same-octet, same-part}
 
 -- ---- a row by its state octet
 
 module _ (r i : List ℕ) (e : ℕ) (h : identifierOf r ≡ i) (g : endpointOf r ≡ e) where
-  slot-opened : octetAt r stateAt ≡ 1 → slotOf r ≡ some (opened i e)
-  unfolding slotOf live associationOf
-  slot-opened s = rw (s, h, g)
+  row-opened : octetAt r stateAt ≡ 1 → inRow r ≡ some (opened i e)
+  unfolding inRow live associationOf
+  row-opened s = rw (s, h, g)
 
-  slot-keyed : (k : Keys) → keysOf r ≡ k → octetAt r stateAt ≡ 2 → slotOf r ≡ some (keyed i e k)
-  unfolding slotOf live associationOf
-  slot-keyed k f s = rw (s, h, g, f)
+  row-keyed : (k : Keys) → keysOf r ≡ k → octetAt r stateAt ≡ 2 → inRow r ≡ some (keyed i e k)
+  unfolding inRow live associationOf
+  row-keyed k f s = rw (s, h, g, f)
 
 -- ---- a vacant row
 
@@ -37,8 +37,8 @@ pub vacant-row-length : length vacantRow ≡ rowLength
 unfolding vacantRow
 vacant-row-length = length-replicate {A = ℕ} rowLength 0
 
-pub vacant-row : slotOf vacantRow ≡ none
-unfolding slotOf live vacantRow
+pub vacant-row : inRow vacantRow ≡ none
+unfolding inRow live vacantRow
 vacant-row = refl
 
 -- ---- an open row
@@ -47,7 +47,7 @@ pub open-row-length : (i : List ℕ) (e : ℕ) → length (openRow i e) ≡ rowL
 unfolding openRow
 open-row-length i e = simp (length-append, padded-length)
 
-pub open-row : (i : List ℕ) (e : ℕ) → length i ≡ width → slotOf (openRow i e) ≡ some (opened i e)
+pub open-row : (i : List ℕ) (e : ℕ) → length i ≡ width → inRow (openRow i e) ≡ some (opened i e)
 unfolding openRow identifierOf endpointOf
 open-row i e w =
     let r = openRow i e in
@@ -55,7 +55,7 @@ open-row i e w =
     let x1 = holds-two (octetsOf32 e ++ padded width i) (1 ∷ []) (x2 .0) stateAt (simp padded-length) in
     let x0 = holds-two (octetsOf32 e) (padded width i) (x1 .0) identifierAt refl in
     let p : part r identifierAt (identifierAt + width) ≡ padded width i = holds-part (x0 .1) (identifierAt + width) (rw padded-length) in
-    slot-opened r i e (p ∙ padded-whole width i w) (holds-number32 e (x0 .0)) (holds-octet (x1 .1))
+    row-opened r i e (p ∙ padded-whole width i w) (holds-number32 e (x0 .0)) (holds-octet (x1 .1))
 
 -- ---- a row with its key fields replaced
 
@@ -84,7 +84,7 @@ module _ (k : Keys) (r : List ℕ) (l : length r ≡ rowLength) where
   unfolding keyedRow
   keyed-row-length = simp (length-append, padded-length, kept-length)
 
-  pub keyed-row : Roomy k → slotOf (keyedRow k r) ≡ some (keyed (identifierOf r) (endpointOf r) k)
+  pub keyed-row : Roomy k → inRow (keyedRow k r) ≡ some (keyed (identifierOf r) (endpointOf r) k)
   unfolding keyedRow keysOf
   keyed-row f =
       let q = keyedRow k r in
@@ -114,4 +114,4 @@ module _ (k : Keys) (r : List ℕ) (l : length r ≡ rowLength) where
         holds-field saltLimit (k .clientSalt) (x5 .1) (f .clientSalt),
         holds-field saltLimit (k .serverSalt) (x6 .1) (f .serverSalt),
       ) in
-      slot-keyed q (identifierOf r) (endpointOf r) (s .0) (s .1) k z (holds-octet (x0 .1))
+      row-keyed q (identifierOf r) (endpointOf r) (s .0) (s .1) k z (holds-octet (x0 .1))

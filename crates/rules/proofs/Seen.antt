@@ -10,8 +10,8 @@ use Rattle.rules.specs.Search as Search
 use Rattle.rules.specs.Layout.{rows, live, endpointOf, rowLength, tunnelAt, indexAt, blockLength, field, vacantRow, withRow, downBlock, upBlock}
 use Rattle.rules.specs.Verdict.{Verdict, allowed, refusal, after}
 use Rattle.rules.specs.Tunnel.{Tunnel}
-use Rattle.rules.specs.View.{Slot, View, slotOf, view}
-use Rattle.rules.specs.ViewSteps.{withSlot, downView, upView}
+use Rattle.rules.specs.View.{AtPlace, View, inRow, view}
+use Rattle.rules.specs.ViewSteps.{setFirst, downView, upView}
 use Rattle.rules.proofs.SearchLaws.{map-set, map-replicate}
 use Rattle.rules.proofs.RowsLaws.{rows-with, rows-down, down-sized, rows-up, up-front, up-sized}
 use Rattle.rules.proofs.ChunkLaws.{replicate-add}
@@ -43,11 +43,11 @@ module _ {new old : List ℕ} {x y : View} where
 
 -- ---- empty tables
 
-abbrev seenAs : Tunnel → List Slot → View
+abbrev seenAs : Tunnel → List AtPlace → View
 seenAs t l = record { tunnel = t; table = l }
 
-empty-table : (s : List ℕ) → rows s ≡ replicate places vacantRow → map slotOf (rows s) ≡ replicate places none
-empty-table s h = ap (map slotOf) h ∙ map-replicate slotOf places vacantRow ∙ ap (replicate places) vacant-row
+empty-table : (s : List ℕ) → rows s ≡ replicate places vacantRow → map inRow (rows s) ≡ replicate places none
+empty-table s h = ap (map inRow) h ∙ map-replicate inRow places vacantRow ∙ ap (replicate places) vacant-row
 
 down-legal : Legal downBlock
 unfolding downBlock
@@ -68,18 +68,18 @@ up-seen list g = record {
   is = ap₂ seenAs (up-tunnel list (good-list-room list g)) (empty-table (upBlock list) (rows-up list));
 }
 
-row-view : (s : List ℕ) (l : Legal s) (at : ℕ) (h : at < places) (r : List ℕ) (e : length r ≡ rowLength) (x : Slot) → slotOf r ≡ x
-    → (p : Slot → Bool) → Search.first p (view s .table) ≡ at → view (withRow s at r) ≡ withSlot p x (view s)
+row-view : (s : List ℕ) (l : Legal s) (at : ℕ) (h : at < places) (r : List ℕ) (e : length r ≡ rowLength) (x : AtPlace) → inRow r ≡ x
+    → (p : AtPlace → Bool) → Search.first p (view s .table) ≡ at → view (withRow s at r) ≡ setFirst p x (view s)
 unfolding view
 row-view s l at h r e x f p g =
     ap₂ seenAs (tunnel-with s (l .sized) at h r e)
-    (ap (map slotOf) (rows-with s (l .sized) at h r e) ∙ map-set slotOf (rows s) at r ∙ ap₂ (set (map slotOf (rows s))) (sym g) f)
+    (ap (map inRow) (rows-with s (l .sized) at h r e) ∙ map-set inRow (rows s) at r ∙ ap₂ (set (map inRow (rows s))) (sym g) f)
 
 -- ---- another row at a place that a search finds, and the index that follows
 
-pub row-seen : (s : List ℕ) (l : Legal s) (at : ℕ) (h : at < places) (r : List ℕ) (e : length r ≡ rowLength) (x : Slot) → slotOf r ≡ x
-    → (p : Slot → Bool) → Search.first p (view s .table) ≡ at
-    → (t : List ℕ) → Index.Legal live endpointOf (frontWith s l at h r e) t (set (rows s) at r) → Seen t (withSlot p x (view s))
+pub row-seen : (s : List ℕ) (l : Legal s) (at : ℕ) (h : at < places) (r : List ℕ) (e : length r ≡ rowLength) (x : AtPlace) → inRow r ≡ x
+    → (p : AtPlace → Bool) → Search.first p (view s .table) ≡ at
+    → (t : List ℕ) → Index.Legal live endpointOf (frontWith s l at h r e) t (set (rows s) at r) → Seen t (setFirst p x (view s))
 row-seen s l at h r e x f p g t k = record {
   legal = follows-legal s l at h r e t k;
   is = follows-view s l at h r e t k ∙ row-view s l at h r e x f p g;

@@ -10,14 +10,14 @@ use Rattle.octets.specs.Write.{over}
 use Rattle.octets.proofs.PartLaws.{part-behind}
 use Rattle.rules.specs.Index.{entered, withdrawn}
 
--- octets in the place of as many
+-- octets instead of as many
 pub over-at : (x y r q : List ℕ) (at : ℕ) → length x ≡ at → length y ≡ length q → over (x ++ (y ++ r)) at q ≡ x ++ (q ++ r)
 over-at x y r q at e f =
     let l : length (x ++ y) ≡ at + length q = length-append x y ∙ omega arith in
     let a : drop (at + length q) (x ++ (y ++ r)) ≡ r = ap (drop (at + length q)) (sym (append-assoc x y r)) ∙ drop-at (x ++ y) r (at + length q) l in
     rw (take-at x (y ++ r) at e, a) (append-assoc x q r)
 
--- two neighbours that are cut at another place
+-- two neighbours that are cut at another offset
 record Cut (a b : List ℕ) (n : ℕ) : Type 0 where
   low : List ℕ
   high : List ℕ

@@ -8,7 +8,7 @@ use borrow.Author.Tests.{ltb-true, not-true}
 use lib.Dec.{eqb, ltb}
 use lib.ListN.{length, getD, set}
 use Rattle.octets.specs.Bounds.{partIn}
-use Rattle.message.specs.Parts.{identifierPlace}
+use Rattle.message.specs.Parts.{identifierBounds}
 use Rattle.message.specs.Read as Read
 use Rattle.message.specs.declared.bodies.Fields.{Fields}
 use Rattle.message.specs.declared.bodies.Fields.the-variants.{SupportedProfiles, UnsupportedVersion, MediaKeys, TunneledDtls, EndpointDisconnect}
@@ -28,10 +28,10 @@ use Rattle.rules.specs.Refusals.{receiving}
 use Rattle.rules.specs.Table.{placeOfIdentifier, vacantPlace, knows, serves, hasRoom, startVerdict, openVerdict, closeVerdict, keysVerdict, startNext, openNext, closeNext, endNext, fieldsNext, readNext, octetsNext, associationOf, without, rekeyed, step}
 use Rattle.rules.specs.View.{view, identifierIn, endpointIn, isFor}
 use Rattle.rules.specs.ViewSteps as Steps
-use Rattle.rules.specs.ViewSteps.{isVacant, withSlot, firstWith, rekey, viewStep}
+use Rattle.rules.specs.ViewSteps.{isVacant, setFirst, firstWith, rekey, viewStep}
 use Rattle.rules.proofs.RowsLaws.{row-length}
 use Rattle.rules.proofs.Legal.{Legal, place-first}
-use Rattle.rules.proofs.LegalSteps.{slot-tells, vacant-live, frontWith, with-table}
+use Rattle.rules.proofs.LegalSteps.{row-tells, vacant-live, frontWith, with-table}
 use Rattle.rules.proofs.IndexTable as Index
 use Rattle.rules.proofs.RowLaws.{vacant-row-length, vacant-row, open-row-length, open-row, keyed-row-length, keyed-row}
 use Rattle.rules.proofs.KeysRoom.{keys-room}
@@ -82,14 +82,14 @@ module _ (s : List ℕ) (l : Legal s) where
       let w : at < places = ltb-true _ _ (o .room) in
       let n = open-row-length i e in
       let f = open-row i e (o .wide) in
-      let q = slot-tells r (opened i e) f in
+      let q = row-tells r (opened i e) f in
       let k = Index.legal-open live endpointOf [] (frontWith s l at w r n) (withRow s at r) (rows s) (with-table s l at w r n) at w r
       (room-vacant s (o .room)) (q .0) (fresh-none s l (endpointOf r) (ap (serves s) (q .1) ∙ o .fresh)) in
       row-seen s l at w r n (some (opened i e)) f isVacant (view-vacant s)
       (withEntry (withRow s at r) e at) (subst (λ (a : ℕ). Index.Legal live endpointOf (frontWith s l at w r n) (withEntry (withRow s at r) a at) (set (rows s) at r)) (q .1) k))
       (as-it-is s l))
 
-  without-seen : (i : List ℕ) → knows s i ≡ true → Seen (without s i) (withSlot (isFor i) none (view s))
+  without-seen : (i : List ℕ) → knows s i ≡ true → Seen (without s i) (setFirst (isFor i) none (view s))
   unfolding rowOf
   without-seen i h =
       let at = placeOfIdentifier s i in
@@ -108,7 +108,7 @@ module _ (s : List ℕ) (l : Legal s) where
   end-seen = rw (view-up s) (by-test (up s) (λ _. down-seen) (as-it-is s l))
 
   rekeyed-seen : (i octets : List ℕ) (profile : ℕ) (k : KeyLengths) → keysVerdict s i profile k ≡ allowed
-      → Seen (rekeyed s i octets profile k) (withSlot (isFor i) (some (rekey (keysIn octets profile k) (firstWith (isFor i) (view s)))) (view s))
+      → Seen (rekeyed s i octets profile k) (setFirst (isFor i) (some (rekey (keysIn octets profile k) (firstWith (isFor i) (view s)))) (view s))
   rekeyed-seen i octets profile k h =
       let o = keys-passed s i profile k h in
       let at = placeOfIdentifier s i in
@@ -122,7 +122,7 @@ module _ (s : List ℕ) (l : Legal s) where
       let new-row = keyedRow new r in
       let nl = keyed-row-length new r n in
       let kr = keyed-row new r n (keys-room octets profile k (o .keys) (o .others)) in
-      let q = slot-tells new-row (keyed (identifierOf r) (endpointOf r) new) kr in
+      let q = row-tells new-row (keyed (identifierOf r) (endpointOf r) new) kr in
       row-seen s l at within new-row nl (some (rekey new (firstWith (isFor i) (view s))))
       (kr ∙ ap some (sym f)) (isFor i) (view-identifier s i)
       (withRow s at new-row)
@@ -133,12 +133,12 @@ module _ (s : List ℕ) (l : Legal s) where
   fields-seen u octets (SupportedProfiles v n) = as-it-is s l
   fields-seen u octets (UnsupportedVersion v) = down-seen
   fields-seen u octets (MediaKeys profile k) =
-      rw (view-keys-verdict s u (partIn octets identifierPlace) profile k)
-      (by-verdict (keysVerdict s (partIn octets identifierPlace) profile k) (rekeyed-seen (partIn octets identifierPlace) octets profile k) (as-it-is s l))
+      rw (view-keys-verdict s u (partIn octets identifierBounds) profile k)
+      (by-verdict (keysVerdict s (partIn octets identifierBounds) profile k) (rekeyed-seen (partIn octets identifierBounds) octets profile k) (as-it-is s l))
   fields-seen u octets (TunneledDtls n) = as-it-is s l
   fields-seen u octets EndpointDisconnect =
-      rw (view-knows s (partIn octets identifierPlace))
-      (by-test (knows s (partIn octets identifierPlace)) (without-seen (partIn octets identifierPlace)) (as-it-is s l))
+      rw (view-knows s (partIn octets identifierBounds))
+      (by-test (knows s (partIn octets identifierBounds)) (without-seen (partIn octets identifierBounds)) (as-it-is s l))
 
   read-seen : up s ≡ true → (octets : List ℕ) (a : Read.Answer) → Seen (readNext s octets a) (Steps.readNext (view s) octets a)
   read-seen u octets Read.moreNeeded = as-it-is s l

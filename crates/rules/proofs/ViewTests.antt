@@ -16,7 +16,7 @@ use Rattle.rules.specs.Layout.{up, rows, rowOf, live, identifierOf, endp
 use Rattle.rules.specs.Answer.{opened, keyed}
 use Rattle.rules.specs.Table.{associationOf, placeOfIdentifier, placeOfEndpoint, vacantPlace, knows, serves, hasRoom}
 use Rattle.rules.specs.Tunnel.{isUp}
-use Rattle.rules.specs.View.{Slot, slotOf, view, identifierIn, endpointIn, isFor}
+use Rattle.rules.specs.View.{AtPlace, inRow, view, identifierIn, endpointIn, isFor}
 use Rattle.rules.specs.ViewSteps.{isVacant, isServing, has, firstWith}
 use Rattle.rules.proofs.SearchLaws.{some-first, first-passes, first-along}
 use Rattle.rules.proofs.RowsLaws.{rows-length}
@@ -27,7 +27,7 @@ pub view-up : (s : List ℕ) → isUp (view s .tunnel) ≡ up s
 unfolding view
 view-up s = tunnel-up s
 
--- ---- a row and its slot
+-- ---- a row and what stands at its place
 
 module _ (r : List ℕ) where
   pub association-identifier : identifierIn (associationOf r) ≡ identifierOf r
@@ -47,28 +47,28 @@ module _ (r : List ℕ) where
       go false = refl
 
   -- a live row holds its association
-  pub slot-live : live r ≡ true → slotOf r ≡ some (associationOf r)
-  unfolding slotOf
-  slot-live h = rw h
+  pub row-live : live r ≡ true → inRow r ≡ some (associationOf r)
+  unfolding inRow
+  row-live h = rw h
 
-  pub row-for : (i : List ℕ) → isFor i (slotOf r) ≡ named i r
-  unfolding slotOf named
+  pub row-for : (i : List ℕ) → isFor i (inRow r) ≡ named i r
+  unfolding inRow named
   row-for i = go (live r) ∙ ap (λ (x : List ℕ). live r && same x i) association-identifier
     where
       go : (b : Bool) → isFor i (cond b (some (associationOf r)) none) ≡ (b && same (identifierIn (associationOf r)) i)
       go true = refl
       go false = refl
 
-  pub row-serving : (e : ℕ) → isServing e (slotOf r) ≡ serving e r
-  unfolding slotOf serving
+  pub row-serving : (e : ℕ) → isServing e (inRow r) ≡ serving e r
+  unfolding inRow serving
   row-serving e = go (live r) ∙ ap (λ (x : ℕ). live r && eqb x e) association-endpoint
     where
       go : (b : Bool) → isServing e (cond b (some (associationOf r)) none) ≡ (b && eqb (endpointIn (associationOf r)) e)
       go true = refl
       go false = refl
 
-  pub row-vacant : isVacant (slotOf r) ≡ vacant r
-  unfolding slotOf vacant
+  pub row-vacant : isVacant (inRow r) ≡ vacant r
+  unfolding inRow vacant
   row-vacant = go (live r)
     where
       go : (b : Bool) → isVacant (cond b (some (associationOf r)) none) ≡ not b
@@ -85,14 +85,14 @@ module _ (r : List ℕ) where
 
 -- ---- a search in the table is one in the rows
 
-module _ (p : Slot → Bool) (q : List ℕ → Bool) (h : (r : List ℕ) → p (slotOf r) ≡ q r) (s : List ℕ) where
+module _ (p : AtPlace → Bool) (q : List ℕ → Bool) (h : (r : List ℕ) → p (inRow r) ≡ q r) (s : List ℕ) where
   seen-first : Search.first p (view s .table) ≡ Search.first q (rows s)
   unfolding view
-  seen-first = first-along slotOf p q h (rows s)
+  seen-first = first-along inRow p q h (rows s)
 
   seen-has : has p (view s) ≡ ltb (Search.first q (rows s)) places
   unfolding view
-  seen-has = some-first p (map slotOf (rows s)) ∙ ap₂ ltb seen-first (length-map (rows s) slotOf ∙ rows-length s)
+  seen-has = some-first p (map inRow (rows s)) ∙ ap₂ ltb seen-first (length-map (rows s) inRow ∙ rows-length s)
 
 module _ (s : List ℕ) where
   pub view-identifier : (i : List ℕ) → Search.first (isFor i) (view s .table) ≡ placeOfIdentifier s i
@@ -120,9 +120,9 @@ module _ (s : List ℕ) where
 -- ---- what is found
 
 -- what stands at a place of the table
-pub view-at : (s : List ℕ) (at : ℕ) → getD (view s .table) at none ≡ slotOf (rowOf s at)
-unfolding view rowOf slotOf live
-view-at s at = List·getD-map slotOf (rows s) at []
+pub view-at : (s : List ℕ) (at : ℕ) → getD (view s .table) at none ≡ inRow (rowOf s at)
+unfolding view rowOf inRow live
+view-at s at = List·getD-map inRow (rows s) at []
 
 module _ (s : List ℕ) where
   found-passes : (q : List ℕ → Bool) → Search.first q (rows s) < places → q (rowOf s (Search.first q (rows s))) ≡ true
@@ -138,9 +138,9 @@ module _ (s : List ℕ) where
   served-live l e h = rw (place-first s l e) (serving-live _ e (found-passes (serving e) (ltb-true _ _ (ap (λ (n : ℕ). ltb n places) (sym (place-first s l e)) ∙ h))))
 
   -- and its association is the one that the view finds
-  first-with : (p : Slot → Bool) (at : ℕ) → Search.first p (view s .table) ≡ at → live (rowOf s at) ≡ true
+  first-with : (p : AtPlace → Bool) (at : ℕ) → Search.first p (view s .table) ≡ at → live (rowOf s at) ≡ true
       → firstWith p (view s) ≡ associationOf (rowOf s at)
-  first-with p at e h = rw (e, view-at s at, slot-live (rowOf s at) h)
+  first-with p at e h = rw (e, view-at s at, row-live (rowOf s at) h)
 
   pub view-known : (i : List ℕ) → knows s i ≡ true → firstWith (isFor i) (view s) ≡ associationOf (rowOf s (placeOfIdentifier s i))
   view-known i h = first-with (isFor i) (placeOfIdentifier s i) (view-identifier s i) (known-live i h)

@@ -10,7 +10,8 @@ use Rattle.message.specs.Message.{tunneledDtls}
 use Rattle.message.specs.Profiles.{goodList, inList, keysFit, mkiAndSaltsFit}
 use Rattle.message.specs.declared.bodies.KeyLengths.{KeyLengths}
 use Rattle.rules.specs.Layout.{up, listOf, rowOf}
-use Rattle.rules.specs.Verdict.{allowed, refuse}
+use Rattle.rules.specs.Verdict.{allowed}
+use Rattle.rules.specs.Orders.{packetOrder}
 use Rattle.rules.specs.Refusals.{wrongWidth, noRoom, notDtls, tooLong}
 use Rattle.rules.specs.Table.{placeOfEndpoint, knows, serves, hasRoom, startVerdict, openVerdict, packetMessage, packetVerdict, closeVerdict, lookVerdict, keysVerdict}
 use Rattle.rules.specs.Tunnel.{listIn}
@@ -60,8 +61,8 @@ module _ (s : List ℕ) where
   view-packet-verdict l e packet room = rw (view-up s, view-serves s l e) (go (serves s e) (view-packet-message l e packet))
     where
       go : (b : Bool) → (b ≡ true → Steps.packetMessage (view s) e packet ≡ packetMessage s e packet)
-          → refuse (not (up s)) 1 (refuse (not b) 6 (refuse (notDtls packet) 14 (refuse (tooLong packet) 15 (refuse (noRoom (Steps.packetMessage (view s) e packet) room) 13 allowed))))
-          ≡ refuse (not (up s)) 1 (refuse (not b) 6 (refuse (notDtls packet) 14 (refuse (tooLong packet) 15 (refuse (noRoom (packetMessage s e packet) room) 13 allowed))))
+          → packetOrder (not (up s)) (not b) (notDtls packet) (tooLong packet) (noRoom (Steps.packetMessage (view s) e packet) room)
+          ≡ packetOrder (not (up s)) (not b) (notDtls packet) (tooLong packet) (noRoom (packetMessage s e packet) room)
       go true h = rw (h refl)
       go false h = refl
 

@@ -7,9 +7,10 @@ use Rattle.octets.specs.Bounds.{partIn}
 use Rattle.message.specs.Frame as Frame
 use Rattle.message.specs.Limits.{width, header}
 use Rattle.message.specs.Message.{encode, tunneledDtls, endpointDisconnect}
-use Rattle.message.specs.Parts.{identifierPlace, dtlsPlace}
+use Rattle.message.specs.Parts.{identifierBounds, dtlsBounds}
 use Rattle.message.specs.Profiles.{goodList, inList, keysFit, mkiAndSaltsFit}
 use Rattle.message.specs.Read as Read
+use Rattle.message.specs.Direction.{ofKinds}
 use Rattle.message.specs.declared.bodies.Fields.{Fields}
 use Rattle.message.specs.declared.bodies.Fields.the-variants.{SupportedProfiles, UnsupportedVersion, MediaKeys, TunneledDtls, EndpointDisconnect}
 use Rattle.rules.specs.Search.{keep}
@@ -18,7 +19,7 @@ use Rattle.rules.specs.Call as Call
 use Rattle.rules.specs.Verdict.{allowed, refuse}
 use Rattle.rules.specs.Answer as Answer
 use Rattle.rules.specs.Answer.{Answer, Association, refused, moreNeeded, wrote, placed, ended, found, keysStored, delivery, removed, version, answered}
-use Rattle.rules.specs.Refusals.{wrongWidth, noRoom, notDtls, tooLong, startMessage, ofProfiles}
+use Rattle.rules.specs.Refusals.{wrongWidth, noRoom, notDtls, tooLong, startMessage, isProfiles}
 use Rattle.rules.specs.Cards.{Held, blank, opened, keyed, Cards, filled, holding, endpointLive, allLive, next}
 
 -- every card keeps the tunnel, so any will do
@@ -32,13 +33,13 @@ isDown cards = not (isUp (tunnelOn cards))
 abbrev pub identifierWith : Cards → ℕ → List ℕ
 identifierWith cards e = getD (keep (λ i. holding e (cards .card i .held)) (cards .opening)) 0 []
 
-abbrev pub startDue : Cards → List ℕ → (room : ℕ) → Answer
-startDue cards list room =
+abbrev pub startExpected : Cards → List ℕ → (room : ℕ) → Answer
+startExpected cards list room =
     answered (refuse (isUp (tunnelOn cards)) 17 (refuse (not (goodList list)) 16 (refuse (noRoom (startMessage list) room) 13 allowed))) 0
     (wrote (encode (startMessage list)))
 
-abbrev pub openDue : Cards → List ℕ → ℕ → Answer
-openDue cards identifier endpoint =
+abbrev pub openExpected : Cards → List ℕ → ℕ → Answer
+openExpected cards identifier endpoint =
     answered
     (refuse (isDown cards) 1
     (refuse (wrongWidth identifier) 20
@@ -47,8 +48,8 @@ openDue cards identifier endpoint =
     (refuse (allLive cards) 10 allowed))))) 0
     (placed 0)
 
-abbrev pub packetDue : Cards → ℕ → List ℕ → (room : ℕ) → Answer
-packetDue cards endpoint packet room =
+abbrev pub packetExpected : Cards → ℕ → List ℕ → (room : ℕ) → Answer
+packetExpected cards endpoint packet room =
     let m = tunneledDtls (identifierWith cards endpoint) packet in
     answered
     (refuse (isDown cards) 1
@@ -58,8 +59,8 @@ packetDue cards endpoint packet room =
     (refuse (noRoom m room) 13 allowed))))) 0
     (wrote (encode m))
 
-abbrev pub closeDue : Cards → List ℕ → (room : ℕ) → Answer
-closeDue cards identifier room =
+abbrev pub closeExpected : Cards → List ℕ → (room : ℕ) → Answer
+closeExpected cards identifier room =
     answered
     (refuse (isDown cards) 1
     (refuse (wrongWidth identifier) 20
@@ -73,50 +74,51 @@ associationOn i blank = Answer.opened [] 0
 associationOn i (opened endpoint) = Answer.opened i endpoint
 associationOn i (keyed endpoint k) = Answer.keyed i endpoint k
 
-abbrev pub lookDue : Cards → ℕ → Answer
-lookDue cards endpoint =
+abbrev pub lookExpected : Cards → ℕ → Answer
+lookExpected cards endpoint =
     answered (refuse (isDown cards) 1 (refuse (not (endpointLive cards endpoint)) 6 allowed)) 0
     (found (associationOn (identifierWith cards endpoint) (cards .card (identifierWith cards endpoint) .held)))
 
--- a delivery goes to the endpoint on the card of the identifier that the message names
-abbrev pub deliveryOn : Held → (n taken : ℕ) → Answer
-deliveryOn blank n taken = refused 6 taken
-deliveryOn (opened endpoint) n taken = delivery endpoint (dtlsPlace n) taken
-deliveryOn (keyed endpoint k) n taken = delivery endpoint (dtlsPlace n) taken
+-- the answer to a message that names an identifier goes by the endpoint on its card; 6 where that is blank
+abbrev pub byCard : Held → (taken : ℕ) → (ℕ → Answer) → Answer
+byCard blank taken a = refused 6 taken
+byCard (opened endpoint) taken a = a endpoint
+byCard (keyed endpoint k) taken a = a endpoint
 
 -- a SupportedProfiles does not come this far: refusal 4 is given before its body is read
-abbrev pub messageDue : Cards → List ℕ → Fields → (taken : ℕ) → Answer
-messageDue cards octets (SupportedProfiles v n) taken = refused 4 taken
-messageDue cards octets (UnsupportedVersion v) taken = version v taken
-messageDue cards octets (MediaKeys profile k) taken =
+abbrev pub messageExpected : Cards → List ℕ → Fields → (taken : ℕ) → Answer
+messageExpected cards octets (SupportedProfiles v n) taken = refused 4 taken
+messageExpected cards octets (UnsupportedVersion v) taken = version v taken
+messageExpected cards octets (MediaKeys profile k) taken =
+    byCard (cards .card (partIn octets identifierBounds) .held) taken (λ endpoint.
     answered
-    (refuse (not (filled (cards .card (partIn octets identifierPlace) .held))) 6
     (refuse (not (inList profile (listIn (tunnelOn cards)))) 7
     (refuse (not (keysFit profile k)) 8
-    (refuse (not (mkiAndSaltsFit k)) 9 allowed)))) taken
-    (keysStored taken)
-messageDue cards octets (TunneledDtls n) taken = deliveryOn (cards .card (partIn octets identifierPlace) .held) n taken
-messageDue cards octets EndpointDisconnect taken =
-    cond (filled (cards .card (partIn octets identifierPlace) .held)) (removed taken) (refused 6 taken)
+    (refuse (not (mkiAndSaltsFit k)) 9 allowed))) taken
+    (keysStored endpoint taken))
+messageExpected cards octets (TunneledDtls n) taken =
+    byCard (cards .card (partIn octets identifierBounds) .held) taken (λ endpoint. delivery endpoint (dtlsBounds n) taken)
+messageExpected cards octets EndpointDisconnect taken =
+    byCard (cards .card (partIn octets identifierBounds) .held) taken (λ endpoint. removed endpoint taken)
 
-abbrev pub readDue : Cards → List ℕ → Read.Answer → Answer
-readDue cards octets Read.moreNeeded = moreNeeded
-readDue cards octets (Read.refused number taken) = refused number taken
-readDue cards octets (Read.accepted f taken) = messageDue cards octets f taken
+abbrev pub readExpected : Cards → List ℕ → Read.Answer → Answer
+readExpected cards octets Read.moreNeeded = moreNeeded
+readExpected cards octets (Read.refused number taken) = refused number taken
+readExpected cards octets (Read.accepted f taken) = messageExpected cards octets f taken
 
 -- by the reading rules, with refusal 4, for a whole message of type 1, tested before the body
-abbrev pub octetsDue : Cards → List ℕ → Frame.Framing → Answer
-octetsDue cards octets f = ofProfiles f (λ n. refused 4 (header + n)) (readDue cards octets (Read.frameAnswer octets f))
+abbrev pub octetsExpected : Cards → List ℕ → Frame.Framing → Answer
+octetsExpected cards octets f = ofKinds isProfiles f (λ n. refused 4 (header + n)) (readExpected cards octets (Read.frameAnswer octets f))
 
-unfoldable pub due : Cards → Call.Call → Answer
-due cards (Call.start list room) = startDue cards list room
-due cards (Call.opening identifier endpoint) = openDue cards identifier endpoint
-due cards (Call.boothPacket endpoint packet room) = packetDue cards endpoint packet room
-due cards (Call.tunnelOctets octets) = cond (isUp (tunnelOn cards)) (octetsDue cards octets (Frame.frame octets)) (refused 1 0)
-due cards (Call.close identifier room) = closeDue cards identifier room
-due cards Call.end = cond (isUp (tunnelOn cards)) ended (refused 1 0)
-due cards (Call.look endpoint) = lookDue cards endpoint
+unfoldable pub expected : Cards → Call.Call → Answer
+expected cards (Call.start list room) = startExpected cards list room
+expected cards (Call.opening identifier endpoint) = openExpected cards identifier endpoint
+expected cards (Call.boothPacket endpoint packet room) = packetExpected cards endpoint packet room
+expected cards (Call.tunnelOctets octets) = cond (isUp (tunnelOn cards)) (octetsExpected cards octets (Frame.frame octets)) (refused 1 0)
+expected cards (Call.close identifier room) = closeExpected cards identifier room
+expected cards Call.end = cond (isUp (tunnelOn cards)) ended (refused 1 0)
+expected cards (Call.look endpoint) = lookExpected cards endpoint
 
-unfoldable pub dues : Cards → List Call.Call → List Answer
-dues cards [] = []
-dues cards (c ∷ cs) = due cards c ∷ dues (next cards c) cs
+unfoldable pub expectedAnswers : Cards → List Call.Call → List Answer
+expectedAnswers cards [] = []
+expectedAnswers cards (c ∷ cs) = expected cards c ∷ expectedAnswers (next cards c) cs

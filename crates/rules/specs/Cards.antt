@@ -7,7 +7,7 @@ use lib.Dec.{eqb}
 use Rattle.octets.specs.Bounds.{partIn}
 use Rattle.octets.specs.Part.{same}
 use Rattle.message.specs.Message.{endpointDisconnect}
-use Rattle.message.specs.Parts.{identifierPlace}
+use Rattle.message.specs.Parts.{identifierBounds}
 use Rattle.message.specs.Profiles.{goodList, inList, keysFit, mkiAndSaltsFit}
 use Rattle.message.specs.Read as Read
 use Rattle.message.specs.declared.bodies.Fields.{Fields}
@@ -88,11 +88,11 @@ abbrev pub messageCard : Card → List ℕ → Fields → List ℕ → Card
 messageCard c octets (SupportedProfiles v n) i = c
 messageCard c octets (UnsupportedVersion v) i = downCard
 messageCard c octets (MediaKeys profile k) i =
-    cond (same (partIn octets identifierPlace) i && filled (c .held)
+    cond (same (partIn octets identifierBounds) i && filled (c .held)
     && inList profile (listIn (c .tunnel)) && keysFit profile k && mkiAndSaltsFit k)
     (with c (withKeys (keysIn octets profile k) (c .held))) c
 messageCard c octets (TunneledDtls n) i = c
-messageCard c octets EndpointDisconnect i = cond (same (partIn octets identifierPlace) i) (with c blank) c
+messageCard c octets EndpointDisconnect i = cond (same (partIn octets identifierBounds) i) (with c blank) c
 
 -- refusal 2: down, blank; any other refusal, and more needed: no change
 abbrev pub readCard : Card → List ℕ → Read.Answer → List ℕ → Card

@@ -1,4 +1,4 @@
--- The claim about every list of calls (demand 3): the block that it leads to, and every answer on the way, are what the cards say.
+-- The claim about every list of calls (demand 3): the block that it leads to, and every answer on the way, are what the cards say, and openings take the lowest free place.
 use Prim.Native.Nat.{ℕ, _≤_}
 use mathlib.Core.Path.{_≡_}
 use mathlib.Core.Logic.{_↔_}
@@ -16,13 +16,14 @@ use Rattle.rules.specs.Search.{keep, Distinct}
 use Rattle.rules.specs.Tunnel.{isUp}
 use Rattle.rules.specs.Call as Call
 use Rattle.rules.specs.Answer as Answer
-use Rattle.rules.specs.Answer.{Answer, Association, refused, moreNeeded, wrote, placed, ended, found, keysStored, delivery, removed, version}
+use Rattle.rules.specs.Answer.{Answer, Association, refused, moreNeeded, placed, delivery, byAnswer, ofDelivery}
 use Rattle.rules.specs.Layout.{downBlock}
 use Rattle.rules.specs.Table.{run, answer, answers, step}
-use Rattle.rules.specs.View.{Slot, View, view, isFor, identifierIn, endpointIn}
+use Rattle.rules.specs.View.{AtPlace, View, view, isFor, identifierIn, endpointIn}
 use Rattle.rules.specs.Cards as Cards
 use Rattle.rules.specs.Cards.{Held, blank, opened, keyed, filled, live, fed}
-use Rattle.rules.specs.CardAnswers.{dues}
+use Rattle.rules.specs.CardAnswers.{expectedAnswers}
+use Rattle.rules.specs.Placed.{Openings}
 
 -- ---- a record and a card
 
@@ -32,12 +33,12 @@ heldIn (Answer.opened identifier endpoint) = opened endpoint
 heldIn (Answer.keyed identifier endpoint k) = keyed endpoint k
 
 -- the live records, and those with an identifier
-unfoldable pub records : List Slot → List Association
+unfoldable pub records : List AtPlace → List Association
 records [] = []
 records (none ∷ l) = records l
 records (some a ∷ l) = a ∷ records l
 
-abbrev pub recordsWith : List ℕ → List Slot → List Association
+abbrev pub recordsWith : List ℕ → List AtPlace → List Association
 recordsWith identifier table = records (keep (isFor identifier) table)
 
 -- none for a blank card, and one for a filled one
@@ -48,18 +49,9 @@ heldOn (keyed endpoint k) = keyed endpoint k ∷ []
 
 -- ---- answers
 
--- an answer, its place number apart
-abbrev pub apart : Answer → Answer
-apart (refused number taken) = refused number taken
-apart moreNeeded = moreNeeded
-apart (wrote octets) = wrote octets
-apart (placed place) = placed 0
-apart ended = ended
-apart (found a) = found a
-apart (keysStored taken) = keysStored taken
-apart (delivery endpoint dtls taken) = delivery endpoint dtls taken
-apart (removed taken) = removed taken
-apart (version number taken) = version number taken
+-- an answer, except for its place number
+abbrev pub exceptPlace : Answer → Answer
+exceptPlace a = byAnswer refused moreNeeded (λ place. placed 0) delivery (λ taken. a) a
 
 -- what a call hands out: DTLS octets with an endpoint, or nothing
 pub data Handed : Type 0 where
@@ -68,16 +60,7 @@ pub data Handed : Type 0 where
 
 -- by its answer, of the octets that were lent
 abbrev pub handedBy : List ℕ → Answer → Handed
-handedBy octets (refused number taken) = nothing
-handedBy octets moreNeeded = nothing
-handedBy octets (wrote written) = nothing
-handedBy octets (placed place) = nothing
-handedBy octets ended = nothing
-handedBy octets (found a) = nothing
-handedBy octets (keysStored taken) = nothing
-handedBy octets (delivery endpoint dtls taken) = handed endpoint (partIn octets dtls)
-handedBy octets (removed taken) = nothing
-handedBy octets (version number taken) = nothing
+handedBy octets a = ofDelivery a (λ endpoint dtls taken. handed endpoint (partIn octets dtls)) nothing
 
 unfoldable pub handout : List ℕ → Call.Call → Handed
 handout s (Call.start list room) = nothing
@@ -106,22 +89,22 @@ handedRead cards octets Read.moreNeeded = nothing
 handedRead cards octets (Read.refused number taken) = nothing
 handedRead cards octets (Read.accepted f taken) = handedFor cards (meaning octets f)
 
-unfoldable pub handedDue : Cards.Cards → Call.Call → Handed
-handedDue cards (Call.start list room) = nothing
-handedDue cards (Call.opening identifier endpoint) = nothing
-handedDue cards (Call.boothPacket endpoint packet room) = nothing
-handedDue cards (Call.tunnelOctets octets) = handedRead cards octets (Read.reading octets)
-handedDue cards (Call.close identifier room) = nothing
-handedDue cards Call.end = nothing
-handedDue cards (Call.look endpoint) = nothing
+unfoldable pub expectedHandout : Cards.Cards → Call.Call → Handed
+expectedHandout cards (Call.start list room) = nothing
+expectedHandout cards (Call.opening identifier endpoint) = nothing
+expectedHandout cards (Call.boothPacket endpoint packet room) = nothing
+expectedHandout cards (Call.tunnelOctets octets) = handedRead cards octets (Read.reading octets)
+expectedHandout cards (Call.close identifier room) = nothing
+expectedHandout cards Call.end = nothing
+expectedHandout cards (Call.look endpoint) = nothing
 
 unfoldable pub handouts : List ℕ → List Call.Call → List Handed
 handouts s [] = []
 handouts s (c ∷ cs) = handout s c ∷ handouts (step s c) cs
 
-unfoldable pub handedDues : Cards.Cards → List Call.Call → List Handed
-handedDues cards [] = []
-handedDues cards (c ∷ cs) = handedDue cards c ∷ handedDues (Cards.next cards c) cs
+unfoldable pub expectedHandouts : Cards.Cards → List Call.Call → List Handed
+expectedHandouts cards [] = []
+expectedHandouts cards (c ∷ cs) = expectedHandout cards c ∷ expectedHandouts (Cards.next cards c) cs
 
 -- ---- the claim
 
@@ -147,6 +130,8 @@ pub record AsCards (v : View) (cards : Cards.Cards) : Type 0 where
 pub record Claim (calls : List Call.Call) : Type 0 where
   pub state : AsCards (view (run downBlock calls)) (fed Cards.first calls)
   -- "for each accepted type 4 in the list, the octets handed out are its DTLS octets, and the endpoint is the one on the card of its identifier at that call"
-  pub deliveries : handouts downBlock calls ≡ handedDues Cards.first calls
+  pub deliveries : handouts downBlock calls ≡ expectedHandouts Cards.first calls
   -- beyond document 01: every answer, place numbers apart, is the one that the cards give
-  pub answered : map apart (answers downBlock calls) ≡ dues Cards.first calls
+  pub answered : map exceptPlace (answers downBlock calls) ≡ expectedAnswers Cards.first calls
+  -- "takes the lowest free place, so a freed place is used again": for each opening in the list that is answered with a place, in the table that the calls before it led to
+  pub openings : Openings downBlock calls

@@ -18,7 +18,7 @@ unfoldable pub halved : (rounds : ℕ) → (numberAt : ℕ → ℕ) → (sought 
 halved zero numberAt sought lo n = lo
 halved (suc rounds) numberAt sought lo n = halved rounds numberAt sought (nearer (numberAt (lo + n / 2)) sought lo (lo + n / 2)) (n - n / 2)
 
--- the last round: the number seen at the place that is left
+-- the last round: the number seen at the position that is left
 unfoldable pub settled : (seen sought at : ℕ) → Spot
 settled seen sought at = cond (eqb seen sought) (here at) (missing (cond (ltb seen sought) (at + 1) at))
 
@@ -35,7 +35,7 @@ roundsFor rounds n = cond (eqb n 0) 0 (cond (leb n 1) 1 rounds)
 
 -- ---- the numbers that it compares: one a round
 
--- the places of those seen while halving
+-- the positions of those seen while halving
 unfoldable pub halvedBy : (rounds : ℕ) → (numberAt : ℕ → ℕ) → (sought lo n : ℕ) → List ℕ
 halvedBy zero numberAt sought lo n = []
 halvedBy (suc rounds) numberAt sought lo n = (lo + n / 2) ∷ halvedBy rounds numberAt sought (nearer (numberAt (lo + n / 2)) sought lo (lo + n / 2)) (n - n / 2)

@@ -53,11 +53,11 @@ indexOctets m = octetsOf16 (length m) ++ (padded places (column placeOctets m) +
 
 -- ---- writing
 
--- octets put in at a place, those from there on moved up
+-- octets put in at an offset, those from there on moved up
 unfoldable pub entered : List ℕ → (from to : ℕ) → List ℕ → List ℕ
 entered s from to q = over (over s (from + length q) (part s from to)) from q
 
--- as many octets taken out at a place, those behind moved down, and these put in the place that is left
+-- as many octets taken out at an offset, those behind moved down, and these put in the gap that is left
 unfoldable pub withdrawn : List ℕ → (from to : ℕ) → List ℕ → List ℕ
 withdrawn s from to q = over (over s from (part s (from + length q) to)) (to - length q) q
 

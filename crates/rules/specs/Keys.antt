@@ -2,7 +2,7 @@
 use Prim.Native.Nat.{ℕ}
 use mathlib.Core.List.{List}
 use Rattle.octets.specs.Bounds.{partIn}
-use Rattle.message.specs.Parts.{keyPlaces}
+use Rattle.message.specs.Parts.{keyBounds}
 use Rattle.message.specs.declared.bodies.KeyLengths.{KeyLengths}
 
 pub record Keys : Type 0 where
@@ -17,9 +17,9 @@ pub record Keys : Type 0 where
 unfoldable pub keysIn : List ℕ → (profile : ℕ) → KeyLengths → Keys
 keysIn s profile k = record {
   profile = profile;
-  mki = partIn s (keyPlaces k .mki);
-  clientKey = partIn s (keyPlaces k .«client_key»);
-  serverKey = partIn s (keyPlaces k .«server_key»);
-  clientSalt = partIn s (keyPlaces k .«client_salt»);
-  serverSalt = partIn s (keyPlaces k .«server_salt»);
+  mki = partIn s (keyBounds k .mki);
+  clientKey = partIn s (keyBounds k .«client_key»);
+  serverKey = partIn s (keyBounds k .«server_key»);
+  clientSalt = partIn s (keyBounds k .«client_salt»);
+  serverSalt = partIn s (keyBounds k .«server_salt»);
 }

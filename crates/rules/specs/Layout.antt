@@ -11,7 +11,7 @@ use Rattle.message.specs.Limits.{width, mkiLimit, saltLimit}
 use Rattle.rules.specs.Limits.{places, keyLimit, listLimit}
 use Rattle.rules.specs.Keys.{Keys}
 
--- ---- places in a row: endpoint, identifier, state (0 vacant, 1 open, else keyed), profile; then each field behind a length octet, padded with zeros
+-- ---- offsets in a row: endpoint, identifier, state (0 vacant, 1 open, else keyed), profile; then each field behind a length octet, padded with zeros
 
 abbrev pub endpointAt : ℕ
 endpointAt = 0
@@ -43,7 +43,7 @@ serverSaltAt = clientSaltAt + 1 + saltLimit
 abbrev pub rowLength : ℕ
 rowLength = serverSaltAt + 1 + saltLimit
 
--- ---- places in the block: the rows; the tunnel (0 down, else up), its profile list behind a length octet; the index: the number of its entries, their places, their endpoints
+-- ---- offsets in the block: the rows; the tunnel (0 down, else up), its profile list behind a length octet; the index: the number of its entries, their places, their endpoints
 
 abbrev pub tunnelAt : ℕ
 tunnelAt = places * rowLength

@@ -21,7 +21,7 @@ placeServing s endpoint = first (serving endpoint) (rows s)
 abbrev pub sorted : List ℕ → List Entry
 sorted s = order live endpointOf (rows s)
 
--- two functions give the same numbers at these places
+-- two functions give the same numbers at these positions
 abbrev pub Agree : (f g : ℕ → ℕ) → List ℕ → Type 0
 Agree f g [] = Unit {0}
 Agree f g (at ∷ l) = (f at ≡ g at) × Agree f g l

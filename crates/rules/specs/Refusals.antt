@@ -6,10 +6,11 @@ use lib.ListN.{length}
 use lib.Dec.{ltb, eqb}
 use Rattle.demux.specs.Sorting as Sorting
 use Rattle.demux.specs.declared.sorting.Kind.{Kind}
-use Rattle.message.specs.Limits.{width, header}
+use Rattle.message.specs.Limits.{width}
 use Rattle.message.specs.Message.{Message, supportedProfiles, encode}
 use Rattle.message.specs.Frame as Frame
 use Rattle.message.specs.Read as Read
+use Rattle.message.specs.Direction.{directed}
 use Rattle.message.specs.declared.framing.Kind as MessageKind
 use Rattle.rules.specs.Limits.{packetLimit}
 
@@ -43,21 +44,18 @@ tooLong packet = ltb packetLimit (length packet)
 abbrev pub startMessage : List ℕ → Message
 startMessage list = supportedProfiles 0 list
 
--- what is so of a whole message of type 1, by its body's length, and what of all else
-abbrev pub ofProfiles : {X : Type 0} → Frame.Framing → (ℕ → X) → X → X
-ofProfiles Frame.moreNeeded x y = y
-ofProfiles (Frame.refused number taken) x y = y
-ofProfiles (Frame.version number) x y = y
-ofProfiles (Frame.whole MessageKind.Kind.SupportedProfiles n) x y = x n
-ofProfiles (Frame.whole MessageKind.Kind.UnsupportedVersion n) x y = y
-ofProfiles (Frame.whole MessageKind.Kind.MediaKeys n) x y = y
-ofProfiles (Frame.whole MessageKind.Kind.TunneledDtls n) x y = y
-ofProfiles (Frame.whole MessageKind.Kind.EndpointDisconnect n) x y = y
-ofProfiles (Frame.whole MessageKind.Kind.Unlisted n) x y = y
+-- 4: type 1 from the key distributor
+abbrev pub isProfiles : MessageKind.Kind → Bool
+isProfiles MessageKind.Kind.SupportedProfiles = true
+isProfiles MessageKind.Kind.UnsupportedVersion = false
+isProfiles MessageKind.Kind.MediaKeys = false
+isProfiles MessageKind.Kind.TunneledDtls = false
+isProfiles MessageKind.Kind.EndpointDisconnect = false
+isProfiles MessageKind.Kind.Unlisted = false
 
--- the reading of octets from the key distributor: refusal 4, for a whole message of type 1, comes before the body
+-- the reading of octets from the key distributor
 abbrev pub received : List ℕ → Frame.Framing → Read.Answer
-received s f = ofProfiles f (λ n. Read.refused 4 (header + n)) (Read.frameAnswer s f)
+received s f = directed isProfiles s f
 
 unfoldable pub receiving : List ℕ → Read.Answer
 receiving s = received s (Frame.frame s)

@@ -5,7 +5,7 @@ use mathlib.Core.List.{List, [], _∷_}
 use lib.Dec.{ltb, eqb}
 use Rattle.octets.specs.Bounds.{partIn}
 use Rattle.message.specs.Message.{Message, tunneledDtls, endpointDisconnect, encode}
-use Rattle.message.specs.Parts.{identifierPlace, dtlsPlace}
+use Rattle.message.specs.Parts.{identifierBounds, dtlsBounds}
 use Rattle.message.specs.Profiles.{goodList, inList, keysFit, mkiAndSaltsFit}
 use Rattle.message.specs.Read as Read
 use Rattle.message.specs.declared.bodies.Fields.{Fields}
@@ -17,7 +17,8 @@ use Rattle.rules.specs.Keys.{keysIn}
 use Rattle.rules.specs.Call as Call
 use Rattle.rules.specs.Layout.{up, listOf, rows, rowOf, identifierOf, endpointOf, keysOf, named, vacant, stateAt, vacantRow, openRow, keyedRow, withRow, downBlock, upBlock}
 use Rattle.rules.specs.Index.{spot, placeAtSpot, withEntry, withoutEntry}
-use Rattle.rules.specs.Verdict.{Verdict, allowed, refuse, after}
+use Rattle.rules.specs.Verdict.{Verdict, after}
+use Rattle.rules.specs.Orders.{startOrder, openOrder, packetOrder, keysOrder, closeOrder, lookOrder}
 use Rattle.rules.specs.Answer.{Association, opened, keyed, Answer, refused, moreNeeded, wrote, placed, ended, found, keysStored, delivery, removed, version, answered}
 use Rattle.rules.specs.Refusals.{wrongWidth, noRoom, notDtls, tooLong, startMessage, receiving}
 use Rattle.octets.specs.Number.{octetAt}
@@ -45,7 +46,7 @@ hasRoom s = ltb (vacantPlace s) places
 -- ---- Start: 17, 16, 13
 
 unfoldable pub startVerdict : List ℕ → List ℕ → (room : ℕ) → Verdict
-startVerdict s list room = refuse (up s) 17 (refuse (not (goodList list)) 16 (refuse (noRoom (startMessage list) room) 13 allowed))
+startVerdict s list room = startOrder (up s) (not (goodList list)) (noRoom (startMessage list) room)
 
 unfoldable pub startAnswer : List ℕ → List ℕ → (room : ℕ) → Answer
 startAnswer s list room = answered (startVerdict s list room) 0 (wrote (encode (startMessage list)))
@@ -57,11 +58,7 @@ startNext s list room = after (startVerdict s list room) (upBlock list) s
 
 unfoldable pub openVerdict : List ℕ → List ℕ → ℕ → Verdict
 openVerdict s identifier endpoint =
-    refuse (not (up s)) 1
-    (refuse (wrongWidth identifier) 20
-    (refuse (knows s identifier) 11
-    (refuse (serves s endpoint) 12
-    (refuse (not (hasRoom s)) 10 allowed))))
+    openOrder (not (up s)) (wrongWidth identifier) (knows s identifier) (serves s endpoint) (not (hasRoom s))
 
 unfoldable pub openAnswer : List ℕ → List ℕ → ℕ → Answer
 openAnswer s identifier endpoint = answered (openVerdict s identifier endpoint) 0 (placed (vacantPlace s))
@@ -76,11 +73,7 @@ packetMessage s endpoint packet = tunneledDtls (identifierOf (rowOf s (placeOfEn
 
 unfoldable pub packetVerdict : List ℕ → ℕ → List ℕ → (room : ℕ) → Verdict
 packetVerdict s endpoint packet room =
-    refuse (not (up s)) 1
-    (refuse (not (serves s endpoint)) 6
-    (refuse (notDtls packet) 14
-    (refuse (tooLong packet) 15
-    (refuse (noRoom (packetMessage s endpoint packet) room) 13 allowed))))
+    packetOrder (not (up s)) (not (serves s endpoint)) (notDtls packet) (tooLong packet) (noRoom (packetMessage s endpoint packet) room)
 
 unfoldable pub packetAnswer : List ℕ → ℕ → List ℕ → (room : ℕ) → Answer
 packetAnswer s endpoint packet room = answered (packetVerdict s endpoint packet room) 0 (wrote (encode (packetMessage s endpoint packet)))
@@ -89,10 +82,7 @@ packetAnswer s endpoint packet room = answered (packetVerdict s endpoint packet 
 
 unfoldable pub closeVerdict : List ℕ → List ℕ → (room : ℕ) → Verdict
 closeVerdict s identifier room =
-    refuse (not (up s)) 1
-    (refuse (wrongWidth identifier) 20
-    (refuse (not (knows s identifier)) 6
-    (refuse (noRoom (endpointDisconnect identifier) room) 13 allowed)))
+    closeOrder (not (up s)) (wrongWidth identifier) (not (knows s identifier)) (noRoom (endpointDisconnect identifier) room)
 
 unfoldable pub closeAnswer : List ℕ → List ℕ → (room : ℕ) → Answer
 closeAnswer s identifier room = answered (closeVerdict s identifier room) 0 (wrote (encode (endpointDisconnect identifier)))
@@ -119,7 +109,7 @@ unfoldable pub associationOf : List ℕ → Association
 associationOf r = cond (eqb (octetAt r stateAt) 1) (opened (identifierOf r) (endpointOf r)) (keyed (identifierOf r) (endpointOf r) (keysOf r))
 
 unfoldable pub lookVerdict : List ℕ → ℕ → Verdict
-lookVerdict s endpoint = refuse (not (up s)) 1 (refuse (not (serves s endpoint)) 6 allowed)
+lookVerdict s endpoint = lookOrder (not (up s)) (not (serves s endpoint))
 
 unfoldable pub lookAnswer : List ℕ → ℕ → Answer
 lookAnswer s endpoint = answered (lookVerdict s endpoint) 0 (found (associationOf (rowOf s (placeOfEndpoint s endpoint))))
@@ -128,34 +118,35 @@ lookAnswer s endpoint = answered (lookVerdict s endpoint) 0 (found (associationO
 
 unfoldable pub keysVerdict : List ℕ → List ℕ → (profile : ℕ) → KeyLengths → Verdict
 keysVerdict s identifier profile k =
-    refuse (not (knows s identifier)) 6
-    (refuse (not (inList profile (listOf s))) 7
-    (refuse (not (keysFit profile k)) 8
-    (refuse (not (mkiAndSaltsFit k)) 9 allowed)))
+    keysOrder (not (knows s identifier)) (not (inList profile (listOf s))) (not (keysFit profile k)) (not (mkiAndSaltsFit k))
 
 -- the block with the key fields of an identifier's association replaced by those of the octets read
 abbrev pub rekeyed : List ℕ → List ℕ → List ℕ → (profile : ℕ) → KeyLengths → List ℕ
 rekeyed s identifier octets profile k =
     withRow s (placeOfIdentifier s identifier) (keyedRow (keysIn octets profile k) (rowOf s (placeOfIdentifier s identifier)))
 
+-- the endpoint of an identifier's association
+abbrev pub endpointFor : (block identifier : List ℕ) → ℕ
+endpointFor s identifier = endpointOf (rowOf s (placeOfIdentifier s identifier))
+
 -- a SupportedProfiles does not come this far: refusal 4 is given before its body is read
 unfoldable pub fieldsAnswer : List ℕ → List ℕ → Fields → (taken : ℕ) → Answer
 fieldsAnswer s octets (SupportedProfiles v n) taken = refused 4 taken
 fieldsAnswer s octets (UnsupportedVersion v) taken = version v taken
-fieldsAnswer s octets (MediaKeys profile k) taken = answered (keysVerdict s (partIn octets identifierPlace) profile k) taken (keysStored taken)
+fieldsAnswer s octets (MediaKeys profile k) taken =
+    answered (keysVerdict s (partIn octets identifierBounds) profile k) taken (keysStored (endpointFor s (partIn octets identifierBounds)) taken)
 fieldsAnswer s octets (TunneledDtls n) taken =
-    cond (knows s (partIn octets identifierPlace))
-    (delivery (endpointOf (rowOf s (placeOfIdentifier s (partIn octets identifierPlace)))) (dtlsPlace n) taken)
-    (refused 6 taken)
-fieldsAnswer s octets EndpointDisconnect taken = cond (knows s (partIn octets identifierPlace)) (removed taken) (refused 6 taken)
+    cond (knows s (partIn octets identifierBounds)) (delivery (endpointFor s (partIn octets identifierBounds)) (dtlsBounds n) taken) (refused 6 taken)
+fieldsAnswer s octets EndpointDisconnect taken =
+    cond (knows s (partIn octets identifierBounds)) (removed (endpointFor s (partIn octets identifierBounds)) taken) (refused 6 taken)
 
 unfoldable pub fieldsNext : List ℕ → List ℕ → Fields → List ℕ
 fieldsNext s octets (SupportedProfiles v n) = s
 fieldsNext s octets (UnsupportedVersion v) = downBlock
 fieldsNext s octets (MediaKeys profile k) =
-    after (keysVerdict s (partIn octets identifierPlace) profile k) (rekeyed s (partIn octets identifierPlace) octets profile k) s
+    after (keysVerdict s (partIn octets identifierBounds) profile k) (rekeyed s (partIn octets identifierBounds) octets profile k) s
 fieldsNext s octets (TunneledDtls n) = s
-fieldsNext s octets EndpointDisconnect = cond (knows s (partIn octets identifierPlace)) (without s (partIn octets identifierPlace)) s
+fieldsNext s octets EndpointDisconnect = cond (knows s (partIn octets identifierBounds)) (without s (partIn octets identifierBounds)) s
 
 abbrev pub readAnswer : List ℕ → List ℕ → Read.Answer → Answer
 readAnswer s octets Read.moreNeeded = moreNeeded

@@ -10,21 +10,21 @@ use Rattle.rules.specs.Tunnel.{Tunnel, down, upWith}
 use Rattle.rules.specs.Table.{associationOf}
 
 -- what stands at a place: an association, or none
-abbrev pub Slot : Type 0
-Slot = Option Association
+abbrev pub AtPlace : Type 0
+AtPlace = Option Association
 
 pub record View : Type 0 where
   pub tunnel : Tunnel
-  pub table : List Slot
+  pub table : List AtPlace
 
 unfoldable pub tunnelOf : List ℕ → Tunnel
 tunnelOf s = cond (up s) (upWith (listOf s)) down
 
-unfoldable pub slotOf : List ℕ → Slot
-slotOf r = cond (live r) (some (associationOf r)) none
+unfoldable pub inRow : List ℕ → AtPlace
+inRow r = cond (live r) (some (associationOf r)) none
 
 unfoldable pub view : List ℕ → View
-view s = record { tunnel = tunnelOf s; table = map slotOf (rows s) }
+view s = record { tunnel = tunnelOf s; table = map inRow (rows s) }
 
 -- ---- tests of a place
 
@@ -36,6 +36,6 @@ abbrev pub endpointIn : Association → ℕ
 endpointIn (opened identifier endpoint) = endpoint
 endpointIn (keyed identifier endpoint k) = endpoint
 
-abbrev pub isFor : List ℕ → Slot → Bool
+abbrev pub isFor : List ℕ → AtPlace → Bool
 isFor identifier none = false
 isFor identifier (some a) = same (identifierIn a) identifier

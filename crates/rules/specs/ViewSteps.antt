@@ -7,7 +7,7 @@ use lib.Dec.{eqb}
 use lib.ListN.{getD, set, replicate}
 use Rattle.octets.specs.Bounds.{partIn}
 use Rattle.message.specs.Message.{Message, tunneledDtls, endpointDisconnect, encode}
-use Rattle.message.specs.Parts.{identifierPlace, dtlsPlace}
+use Rattle.message.specs.Parts.{identifierBounds, dtlsBounds}
 use Rattle.message.specs.Profiles.{goodList, inList, keysFit, mkiAndSaltsFit}
 use Rattle.message.specs.Read as Read
 use Rattle.message.specs.declared.bodies.Fields.{Fields}
@@ -18,34 +18,35 @@ use Rattle.rules.specs.Search as Search
 use Rattle.rules.specs.Keys.{Keys, keysIn}
 use Rattle.rules.specs.Tunnel.{down, upWith, isUp, listIn}
 use Rattle.rules.specs.Call as Call
-use Rattle.rules.specs.Verdict.{Verdict, allowed, refuse, after}
+use Rattle.rules.specs.Verdict.{Verdict, after}
+use Rattle.rules.specs.Orders.{startOrder, openOrder, packetOrder, keysOrder, closeOrder, lookOrder}
 use Rattle.rules.specs.Answer as Answer
 use Rattle.rules.specs.Answer.{Association, Answer, refused, moreNeeded, wrote, placed, ended, found, keysStored, delivery, removed, version, answered}
 use Rattle.rules.specs.Refusals.{wrongWidth, noRoom, notDtls, tooLong, startMessage, receiving}
-use Rattle.rules.specs.View.{Slot, View, identifierIn, endpointIn, isFor}
+use Rattle.rules.specs.View.{AtPlace, View, identifierIn, endpointIn, isFor}
 
 -- ---- what stands at a place
 
-abbrev pub isVacant : Slot → Bool
+abbrev pub isVacant : AtPlace → Bool
 isVacant none = true
 isVacant (some a) = false
 
-abbrev pub isServing : ℕ → Slot → Bool
+abbrev pub isServing : ℕ → AtPlace → Bool
 isServing endpoint none = false
 isServing endpoint (some a) = eqb (endpointIn a) endpoint
 
 -- the association at a place; where there is none, one that no answer asks for
-abbrev pub inSlot : Slot → Association
-inSlot none = Answer.opened [] 0
-inSlot (some a) = a
+abbrev pub associationAt : AtPlace → Association
+associationAt none = Answer.opened [] 0
+associationAt (some a) = a
 
-abbrev pub firstWith : (Slot → Bool) → View → Association
-firstWith p v = inSlot (getD (v .table) (Search.first p (v .table)) none)
+abbrev pub firstWith : (AtPlace → Bool) → View → Association
+firstWith p v = associationAt (getD (v .table) (Search.first p (v .table)) none)
 
-abbrev pub withSlot : (Slot → Bool) → Slot → View → View
-withSlot p x v = record { tunnel = v .tunnel; table = set (v .table) (Search.first p (v .table)) x }
+abbrev pub setFirst : (AtPlace → Bool) → AtPlace → View → View
+setFirst p x v = record { tunnel = v .tunnel; table = set (v .table) (Search.first p (v .table)) x }
 
-abbrev pub has : (Slot → Bool) → View → Bool
+abbrev pub has : (AtPlace → Bool) → View → Bool
 has p v = Search.someOf p (v .table)
 
 -- all key fields replaced
@@ -65,52 +66,51 @@ isDown v = not (isUp (v .tunnel))
 -- ---- the calls
 
 unfoldable pub startVerdict : View → List ℕ → (room : ℕ) → Verdict
-startVerdict v list room = refuse (isUp (v .tunnel)) 17 (refuse (not (goodList list)) 16 (refuse (noRoom (startMessage list) room) 13 allowed))
+startVerdict v list room = startOrder (isUp (v .tunnel)) (not (goodList list)) (noRoom (startMessage list) room)
 
 unfoldable pub openVerdict : View → List ℕ → ℕ → Verdict
-openVerdict v i e =
-    refuse (isDown v) 1 (refuse (wrongWidth i) 20 (refuse (has (isFor i) v) 11 (refuse (has (isServing e) v) 12 (refuse (not (has isVacant v)) 10 allowed))))
+openVerdict v i e = openOrder (isDown v) (wrongWidth i) (has (isFor i) v) (has (isServing e) v) (not (has isVacant v))
 
 abbrev pub packetMessage : View → ℕ → List ℕ → Message
 packetMessage v e packet = tunneledDtls (identifierIn (firstWith (isServing e) v)) packet
 
 unfoldable pub packetVerdict : View → ℕ → List ℕ → (room : ℕ) → Verdict
 packetVerdict v e packet room =
-    refuse (isDown v) 1 (refuse (not (has (isServing e) v)) 6 (refuse (notDtls packet) 14 (refuse (tooLong packet) 15 (refuse (noRoom (packetMessage v e packet) room) 13 allowed))))
+    packetOrder (isDown v) (not (has (isServing e) v)) (notDtls packet) (tooLong packet) (noRoom (packetMessage v e packet) room)
 
 unfoldable pub closeVerdict : View → List ℕ → (room : ℕ) → Verdict
-closeVerdict v i room =
-    refuse (isDown v) 1 (refuse (wrongWidth i) 20 (refuse (not (has (isFor i) v)) 6 (refuse (noRoom (endpointDisconnect i) room) 13 allowed)))
+closeVerdict v i room = closeOrder (isDown v) (wrongWidth i) (not (has (isFor i) v)) (noRoom (endpointDisconnect i) room)
 
 unfoldable pub lookVerdict : View → ℕ → Verdict
-lookVerdict v e = refuse (isDown v) 1 (refuse (not (has (isServing e) v)) 6 allowed)
+lookVerdict v e = lookOrder (isDown v) (not (has (isServing e) v))
 
 unfoldable pub keysVerdict : View → List ℕ → (profile : ℕ) → KeyLengths → Verdict
 keysVerdict v i profile k =
-    refuse (not (has (isFor i) v)) 6
-    (refuse (not (inList profile (listIn (v .tunnel)))) 7
-    (refuse (not (keysFit profile k)) 8
-    (refuse (not (mkiAndSaltsFit k)) 9 allowed)))
+    keysOrder (not (has (isFor i) v)) (not (inList profile (listIn (v .tunnel)))) (not (keysFit profile k)) (not (mkiAndSaltsFit k))
+
+-- the endpoint of an identifier's association
+abbrev pub endpointFor : View → (identifier : List ℕ) → ℕ
+endpointFor v identifier = endpointIn (firstWith (isFor identifier) v)
 
 unfoldable pub fieldsAnswer : View → List ℕ → Fields → (taken : ℕ) → Answer
 fieldsAnswer v octets (SupportedProfiles x n) taken = refused 4 taken
 fieldsAnswer v octets (UnsupportedVersion x) taken = version x taken
-fieldsAnswer v octets (MediaKeys profile k) taken = answered (keysVerdict v (partIn octets identifierPlace) profile k) taken (keysStored taken)
+fieldsAnswer v octets (MediaKeys profile k) taken =
+    answered (keysVerdict v (partIn octets identifierBounds) profile k) taken (keysStored (endpointFor v (partIn octets identifierBounds)) taken)
 fieldsAnswer v octets (TunneledDtls n) taken =
-    cond (has (isFor (partIn octets identifierPlace)) v)
-    (delivery (endpointIn (firstWith (isFor (partIn octets identifierPlace)) v)) (dtlsPlace n) taken)
-    (refused 6 taken)
-fieldsAnswer v octets EndpointDisconnect taken = cond (has (isFor (partIn octets identifierPlace)) v) (removed taken) (refused 6 taken)
+    cond (has (isFor (partIn octets identifierBounds)) v) (delivery (endpointFor v (partIn octets identifierBounds)) (dtlsBounds n) taken) (refused 6 taken)
+fieldsAnswer v octets EndpointDisconnect taken =
+    cond (has (isFor (partIn octets identifierBounds)) v) (removed (endpointFor v (partIn octets identifierBounds)) taken) (refused 6 taken)
 
 unfoldable pub fieldsNext : View → List ℕ → Fields → View
 fieldsNext v octets (SupportedProfiles x n) = v
 fieldsNext v octets (UnsupportedVersion x) = downView
 fieldsNext v octets (MediaKeys profile k) =
-    after (keysVerdict v (partIn octets identifierPlace) profile k)
-    (withSlot (isFor (partIn octets identifierPlace)) (some (rekey (keysIn octets profile k) (firstWith (isFor (partIn octets identifierPlace)) v))) v) v
+    after (keysVerdict v (partIn octets identifierBounds) profile k)
+    (setFirst (isFor (partIn octets identifierBounds)) (some (rekey (keysIn octets profile k) (firstWith (isFor (partIn octets identifierBounds)) v))) v) v
 fieldsNext v octets (TunneledDtls n) = v
 fieldsNext v octets EndpointDisconnect =
-    cond (has (isFor (partIn octets identifierPlace)) v) (withSlot (isFor (partIn octets identifierPlace)) none v) v
+    cond (has (isFor (partIn octets identifierBounds)) v) (setFirst (isFor (partIn octets identifierBounds)) none v) v
 
 abbrev pub readAnswer : View → List ℕ → Read.Answer → Answer
 readAnswer v octets Read.moreNeeded = moreNeeded
@@ -133,10 +133,10 @@ viewAnswer v (Call.look e) = answered (lookVerdict v e) 0 (found (firstWith (isS
 
 unfoldable pub viewStep : View → Call.Call → View
 viewStep v (Call.start list room) = after (startVerdict v list room) (upView list) v
-viewStep v (Call.opening i e) = after (openVerdict v i e) (withSlot isVacant (some (Answer.opened i e)) v) v
+viewStep v (Call.opening i e) = after (openVerdict v i e) (setFirst isVacant (some (Answer.opened i e)) v) v
 viewStep v (Call.boothPacket e packet room) = v
 viewStep v (Call.tunnelOctets octets) = cond (isUp (v .tunnel)) (readNext v octets (receiving octets)) v
-viewStep v (Call.close i room) = after (closeVerdict v i room) (withSlot (isFor i) none v) v
+viewStep v (Call.close i room) = after (closeVerdict v i room) (setFirst (isFor i) none v) v
 viewStep v Call.end = cond (isUp (v .tunnel)) downView v
 viewStep v (Call.look e) = v
 

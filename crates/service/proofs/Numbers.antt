@@ -13,7 +13,7 @@ use Rattle.octets.proofs.Tests.{by-choice}
 use Rattle.message.specs.Body as Body
 use Rattle.message.specs.Frame as Frame
 use Rattle.message.specs.Limits.{header, bodyLimit}
-use Rattle.message.specs.Parts.{identifierPlace}
+use Rattle.message.specs.Parts.{identifierBounds}
 use Rattle.message.specs.Read as Read
 use Rattle.message.specs.declared.bodies.Fields.{Fields}
 use Rattle.message.specs.declared.bodies.Fields.the-variants.{SupportedProfiles, UnsupportedVersion, MediaKeys, TunneledDtls, EndpointDisconnect}
@@ -107,9 +107,9 @@ module _ (s octets : List ℕ) (short : length octets ≤ room) where
   unfolding fieldsAnswer
   of-fields (SupportedProfiles v n) taken h = h
   of-fields (UnsupportedVersion v) taken h = h
-  of-fields (MediaKeys profile k) taken h = of-verdict (keysVerdict s (partIn octets identifierPlace) profile k) taken _ h h
-  of-fields (TunneledDtls n) taken h = by-choice Small (knows s (partIn octets identifierPlace)) _ _ (λ _. h) (λ _. h)
-  of-fields EndpointDisconnect taken h = by-choice Small (knows s (partIn octets identifierPlace)) _ _ (λ _. h) (λ _. h)
+  of-fields (MediaKeys profile k) taken h = of-verdict (keysVerdict s (partIn octets identifierBounds) profile k) taken _ h h
+  of-fields (TunneledDtls n) taken h = by-choice Small (knows s (partIn octets identifierBounds)) _ _ (λ _. h) (λ _. h)
+  of-fields EndpointDisconnect taken h = by-choice Small (knows s (partIn octets identifierBounds)) _ _ (λ _. h) (λ _. h)
 
   of-reading : (r : Read.Answer) → TakenSmall r → Small (readAnswer s octets r)
   of-reading Read.moreNeeded h = none

@@ -1,4 +1,4 @@
--- Pieces written one behind the other, from any place of an output.
+-- Pieces written one behind the other, from any offset of an output.
 use Prim.Native.Nat.{ℕ, _+_, _≤_}
 use mathlib.Core.Path.{_≡_, ap₂, _∙_}
 use mathlib.Core.List.{List, _++_}

@@ -10,7 +10,7 @@ use Rattle.octets.specs.Write.{over}
 use Rattle.octets.proofs.PartLaws.{tail}
 use Rattle.rules.specs.Verdict.{Verdict, allowed, refusal}
 use Rattle.rules.specs.Answer.{wrote, answered, refused}
-use Rattle.distributor.specs.Outcomes.{Sends, sent, notSent}
+use Rattle.distributor.specs.Outcomes.{Wrote, Sends}
 use Rattle.distributor.specs.declared.sending.Sent.{Sent}
 use Rattle.service.specs.Limits.{headLength, answerLimit}
 use Rattle.service.specs.Reply.{Replies, frameOf, answerOctets}
@@ -19,14 +19,18 @@ use Rattle.service.proofs.PieceLaws.{from-front}
 
 -- ---- one answer or the other
 
-sent-is : {a b : ℕ} → sent a ≡ sent b → a ≡ b
-sent-is e = cc
+wrote-is : {m o : List ℕ} → wrote m ≡ wrote o → m ≡ o
+wrote-is e = cc
 
-not-sent-is : {a b : ℕ} → notSent a ≡ notSent b → a ≡ b
-not-sent-is e = cc
+refused-is : {a b : ℕ} → refused a 0 ≡ refused b 0 → a ≡ b
+refused-is e = cc
 
-sent-not : {a b : ℕ} → sent a ≡ notSent b → ⊥
-sent-not e = let z : _≡_ {A = ℕ} 0 1 = cc in omega arith
+wrote-not : {m : List ℕ} {n taken : ℕ} → wrote m ≡ refused n taken → ⊥
+wrote-not e = let z : _≡_ {A = ℕ} 0 1 = cc in omega arith
+
+-- what was written is what the answer says
+wrote-told : {m before after : List ℕ} {count : ℕ} → Wrote (wrote m) before after count → (count ≡ length m) × (after ≡ m ++ drop (length m) before)
+wrote-told s = rw (wrote-is (s .told)) (s .counted, s .written)
 
 -- what is lent of an output, and the output with what came back
 abbrev pub lent : List ℕ → List ℕ
@@ -78,21 +82,21 @@ module _ (l : List ℕ) (size : length l ≡ answerLimit) where
 module _ (l new m : List ℕ) (size : length l ≡ answerLimit) where
   pub sent-fits : (w : Verdict) (r : Sent) → Sends (answered w 0 (wrote m)) (lent l) new r → length (back l new) ≡ answerLimit
       → headLength + behindHead r ≤ answerLimit
-  sent-fits allowed (Sent.Refused n) s h = absurd (sent-not (sym (s .0)))
-  sent-fits allowed (Sent.Written n) s h = rw (sent-is (s .0)) (message-fits l size m new (s .1) h)
+  sent-fits allowed (Sent.Refused n) s h = absurd (wrote-not (s .0))
+  sent-fits allowed (Sent.Written n) s h = rw (wrote-told s .0) (message-fits l size m new (wrote-told s .1) h)
   sent-fits (refusal k) (Sent.Refused n) s h = omega arith
-  sent-fits (refusal k) (Sent.Written n) s h = absurd (sent-not (s .0))
+  sent-fits (refusal k) (Sent.Written n) s h = absurd (wrote-not (sym (s .told)))
 
   pub sent-replied : (w : Verdict) (r : Sent) → Sends (answered w 0 (wrote m)) (lent l) new r → {x : List ℕ} {to : ℕ}
       → (to ≡ headLength + behindHead r) × (x ≡ over (back l new) 0 (front r))
       → Replies (frameOf (answerOctets [] (answered w 0 (wrote m)))) l x to
-  sent-replied allowed (Sent.Refused n) s o = absurd (sent-not (sym (s .0)))
+  sent-replied allowed (Sent.Refused n) s o = absurd (wrote-not (s .0))
   sent-replied allowed (Sent.Written n) s {x} {to} o =
-      let e = sent-is (s .0) in
-      message-replied l size m (o .0 ∙ ap (λ (k : ℕ). headLength + k) e)
-      (o .1 ∙ ap₂ (λ (b : List ℕ) (k : ℕ). over (back l b) 0 (octets16 (1 + k) ++ 2 ∷ [])) (s .1) e)
+      let t = wrote-told s in
+      message-replied l size m (o .0 ∙ ap (λ (k : ℕ). headLength + k) (t .0))
+      (o .1 ∙ ap₂ (λ (b : List ℕ) (k : ℕ). over (back l b) 0 (octets16 (1 + k) ++ 2 ∷ [])) (t .1) (t .0))
   sent-replied (refusal k) (Sent.Refused n) s {x} {to} o =
-      let e = not-sent-is (s .0) in
+      let e = refused-is (sym (s .0)) in
       from-front l (frameOf (answerOctets [] (refused k 0)))
       (o .0, o .1 ∙ ap₂ (λ (b : List ℕ) (j : ℕ). over b 0 (frameOf (answerOctets [] (refused j 0)))) (ap (back l) (s .1) ∙ back-kept l size) e)
-  sent-replied (refusal k) (Sent.Written n) s o = absurd (sent-not (s .0))
+  sent-replied (refusal k) (Sent.Written n) s o = absurd (wrote-not (sym (s .told)))

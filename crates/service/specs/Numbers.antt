@@ -1,22 +1,13 @@
 -- The numbers that an answer frame carries in two octets: places, and octets taken.
 use Prim.Native.Nat.{ℕ, _<_}
 use mathlib.Core.List.{List}
-use Rattle.rules.specs.Answer.{Answer, refused, moreNeeded, wrote, placed, ended, found, keysStored, delivery, removed, version}
+use Rattle.rules.specs.Answer.{Answer, byAnswer}
 use Rattle.rules.specs.Table.{answer}
 use Rattle.service.specs.Request.{Request, call, noCall}
 
 -- the number of an answer; 0 where it has none
 abbrev pub numberIn : Answer → ℕ
-numberIn (refused number taken) = taken
-numberIn moreNeeded = 0
-numberIn (wrote octets) = 0
-numberIn (placed place) = place
-numberIn ended = 0
-numberIn (found a) = 0
-numberIn (keysStored taken) = taken
-numberIn (delivery endpoint dtls taken) = taken
-numberIn (removed taken) = taken
-numberIn (version number taken) = taken
+numberIn a = byAnswer (λ number taken. taken) 0 (λ place. place) (λ endpoint dtls taken. taken) (λ taken. taken) a
 
 -- what two octets can say
 abbrev pub numbers16 : ℕ

@@ -40,9 +40,9 @@ answerOctets lent (wrote octets) = 2 ∷ octets
 answerOctets lent (placed place) = 3 ∷ octets16 place
 answerOctets lent ended = 4 ∷ []
 answerOctets lent (found a) = 5 ∷ recordOctets a
-answerOctets lent (keysStored taken) = 6 ∷ octets16 taken
+answerOctets lent (keysStored endpoint taken) = (6 ∷ octets16 taken) ++ octetsOf32 endpoint
 answerOctets lent (delivery endpoint dtls taken) = (7 ∷ octets16 taken) ++ octetsOf32 endpoint ++ partIn lent dtls
-answerOctets lent (removed taken) = 8 ∷ octets16 taken
+answerOctets lent (removed endpoint taken) = (8 ∷ octets16 taken) ++ octetsOf32 endpoint
 answerOctets lent (version number taken) = (9 ∷ octets16 taken) ++ number ∷ []
 
 -- the octets that a call reads a message from

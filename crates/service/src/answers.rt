@@ -95,6 +95,24 @@ pub(crate) fn put_endpoint(out: &mut [u8], at: usize, endpoint: u32) -> usize
     octets::put_octets(out, at, &number)
 }
 
+// A kind, the octets taken, and the endpoint of the association that the message names.
+pub(crate) fn of_endpoint(out: &mut [u8; ANSWER], kind: u8, endpoint: u32, taken: usize) -> usize
+    ensures { λ r. ⌜ Spec.Replies (Spec.frameOf ((kind ∷ octets16 taken) ++ octetsOf32 endpoint)) (now (out .entry)) (now (out .exit)) r ⌝ }
+{
+    let front = [
+        0,
+        7,
+        kind,
+        (taken / 256 % 256) as u8,
+        (taken % 256) as u8,
+        (endpoint / 16777216) as u8,
+        (endpoint / 65536 % 256) as u8,
+        (endpoint / 256 % 256) as u8,
+        (endpoint % 256) as u8,
+    ];
+    octets::put_octets(out, 0, &front)
+}
+
 // Octets for an endpoint.
 pub(crate) fn delivery(out: &mut [u8; ANSWER], endpoint: u32, dtls: &[u8], taken: usize) -> usize
     requires { ⌜ headLength + 2 + endpointLength + length (now dtls) ≤ answerLimit ⌝ }

@@ -19,10 +19,10 @@ pub(crate) fn tunnel_octets(state: &mut [u8; BLOCK], body: &[u8], out: &mut [u8;
         Received::Refused { number, taken } => answers::refused(out, number, taken),
         Received::BadBody { taken } => answers::refused(out, refusal::BAD_BODY, taken),
         Received::MoreNeeded => answers::plain(out, answers::MORE_NEEDED),
-        Received::KeysStored { taken } => answers::numbered(
+        Received::KeysStored { endpoint, taken } => answers::of_endpoint(
             out,
-            answers::NUMBERED,
             answers::KEYS_STORED,
+            endpoint,
             taken,
         ),
         Received::Delivery {
@@ -30,10 +30,10 @@ pub(crate) fn tunnel_octets(state: &mut [u8; BLOCK], body: &[u8], out: &mut [u8;
             dtls,
             taken,
         } => answers::delivery(out, endpoint, octets::part_in(body, dtls), taken),
-        Received::Disconnected { taken } => answers::numbered(
+        Received::Disconnected { endpoint, taken } => answers::of_endpoint(
             out,
-            answers::NUMBERED,
             answers::REMOVED,
+            endpoint,
             taken,
         ),
         Received::Version { version, taken } => answers::version(out, version, taken),

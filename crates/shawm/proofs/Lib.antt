@@ -3,5 +3,5 @@ pub mod ReadLimits
 pub mod FieldsStand
 pub mod SplitLimits
 pub mod TagStands
-pub mod Told
+pub mod TopBit
 pub mod WriteLaws

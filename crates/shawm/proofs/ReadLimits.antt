@@ -16,7 +16,7 @@ use Rattle.message.specs.Frame as Frame
 use Rattle.message.specs.Walk.{begin, fixed, field8, field16, profileList, complete}
 use Rattle.message.specs.Body as Body
 use Rattle.message.specs.Read.{Answer, moreNeeded, refused, accepted, bodyAnswer, frameAnswer, reading}
-use Rattle.message.specs.Parts.{identifierPlace, listPlace, dtlsPlace, keyPlaces}
+use Rattle.message.specs.Parts.{identifierBounds, listBounds, dtlsBounds, keyBounds}
 use Rattle.message.specs.declared.framing.Kind.{Kind}
 use Rattle.message.specs.declared.bodies.Fields.{Fields}
 use Rattle.message.specs.declared.bodies.Fields.the-variants.{SupportedProfiles, UnsupportedVersion, MediaKeys, TunneledDtls, EndpointDisconnect}
@@ -27,11 +27,11 @@ use Rattle.shawm.specs.Numbers.{versionOf, profileOf}
 
 -- where the last of the fields ends
 abbrev pub fieldsEnd : Fields → ℕ
-fieldsEnd (SupportedProfiles version n) = listPlace n .end
+fieldsEnd (SupportedProfiles version n) = listBounds n .end
 fieldsEnd (UnsupportedVersion version) = header + 1
-fieldsEnd (MediaKeys profile k) = keyPlaces k .«server_salt» .end
-fieldsEnd (TunneledDtls n) = dtlsPlace n .end
-fieldsEnd EndpointDisconnect = identifierPlace .end
+fieldsEnd (MediaKeys profile k) = keyBounds k .«server_salt» .end
+fieldsEnd (TunneledDtls n) = dtlsBounds n .end
+fieldsEnd EndpointDisconnect = identifierBounds .end
 
 -- version and profile
 abbrev Small : Fields → Type 0

@@ -12,7 +12,7 @@ use Rattle.ekt.specs.Limits.{ciphertextLimit, dataLimit, fullTrailer, extension
 use Rattle.ekt.specs.Splitting.{Split, refused, short, full, extension, formOf, lengthFits, splitFull, splitExtension, splitForm, splitting}
 use Rattle.ekt.proofs.LengthLaws.{fits-says}
 
--- contents from one place of the packet to another, and what holds of the numbers beside them
+-- contents from one offset of the packet to another, and what holds of the numbers beside them
 pub record PartLimits (p : List ℕ) (start end : ℕ) (Small : Type 0) : Type 0 where
   pub ordered : start ≤ end
   pub inside : end ≤ length p

@@ -1,4 +1,4 @@
--- What the theorems on places share.
+-- What the theorems on bounds share.
 use Prim.Native.Nat.{ℕ, _≤_}
 use mathlib.Core.Path.{_≡_, refl, sym, ap, _∙_}
 use mathlib.Core.Bool.{Bool, true, false, cond}
@@ -9,7 +9,7 @@ use Rattle.octets.specs.declared.parts.Bounds.{Bounds}
 use Rattle.octets.proofs.PartLaws.{part-length}
 use Rattle.shawm.specs.Claims.{Stands}
 
--- a place that ends within the lent octets
+-- bounds that end within the lent octets
 pub stands : (s : List ℕ) (b : Bounds) (x : List ℕ) → partIn s b ≡ x → b .start ≤ b .end → b .end ≤ length s → Stands s b x
 stands s b x e h k = record {
   ordered = h;
@@ -22,7 +22,7 @@ stands s b x e h k = record {
 pub more : {A B : Type 0} → A → B → A × B
 more a b = (a, b)
 
--- a number that is not listed has no place, whatever the tests on it say
+-- a number that is not listed has no bounds, whatever the tests on it say
 pub either-way : (t : Bool) (b : Bounds) → cond t b b ≡ b
 either-way true b = refl
 either-way false b = refl

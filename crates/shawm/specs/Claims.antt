@@ -10,39 +10,39 @@ use Rattle.message.specs.Message.{Message, supportedProfiles, unsupportedVersio
 use Rattle.message.specs.Read as Read
 use Rattle.message.specs.Parts.{meaning, field}
 use Rattle.message.specs.Write as Write
-use Rattle.message.specs.declared.places.Field.{Field}
+use Rattle.message.specs.declared.bounds.Field.{Field}
 use Rattle.ekt.specs.Splitting as Split
 use Rattle.ekt.specs.Parts.{front, ciphertext, extensionData}
 use Rattle.shawm.specs.Refusal.{topBit}
 use Rattle.shawm.specs.Sorting.{sortNumber}
 use Rattle.shawm.specs.Reading.{readNumber}
-use Rattle.shawm.specs.Fields.{fieldPlace}
+use Rattle.shawm.specs.Fields.{fieldBounds}
 use Rattle.shawm.specs.Writing.{writeNumber}
 use Rattle.shawm.specs.Tag.{tagType}
 
--- ---- places
+-- ---- bounds
 
--- these octets stand at a place in the lent ones, and none of them is cut off
+-- these octets stand at these bounds in the lent ones, and none of them is cut off
 pub record Stands (s : List ℕ) (b : Bounds) (octets : List ℕ) : Type 0 where
   pub ordered : b .start ≤ b .end
   pub inside : b .end ≤ length s
   pub counted : length octets ≡ b .end - b .start
   pub same : partIn s b ≡ octets
 
--- every entry of a list, a number and octets: the octets stand at the number's place
-abbrev pub AllStand : (s : List ℕ) (place : ℕ → Bounds) → List (ℕ × List ℕ) → Type 0
-AllStand s place [] = Unit {0}
-AllStand s place (x ∷ rest) = Stands s (place (x .0)) (x .1) × AllStand s place rest
+-- every entry of a list, a number and octets: the octets stand at the number's bounds
+abbrev pub AllStand : (s : List ℕ) (bounds : ℕ → Bounds) → List (ℕ × List ℕ) → Type 0
+AllStand s bounds [] = Unit {0}
+AllStand s bounds (x ∷ rest) = Stands s (bounds (x .0)) (x .1) × AllStand s bounds rest
 
 -- a number that is not in the list
 abbrev pub NotListed : (number : ℕ) → List (ℕ × List ℕ) → Type 0
 NotListed number [] = Unit {0}
 NotListed number (x ∷ rest) = (number ≡ x .0 → ⊥) × NotListed number rest
 
--- the places by number are those of the list; any other number has none, from 0 to 0
-pub record Placed (s : List ℕ) (place : ℕ → Bounds) (list : List (ℕ × List ℕ)) : Type 0 where
-  pub listed : AllStand s place list
-  pub others : (number : ℕ) → NotListed number list → place number ≡ nowhere
+-- the bounds by number are those of the list; any other number has none, from 0 to 0
+pub record BoundsMatch (s : List ℕ) (bounds : ℕ → Bounds) (list : List (ℕ × List ℕ)) : Type 0 where
+  pub listed : AllStand s bounds list
+  pub others : (number : ℕ) → NotListed number list → bounds number ≡ nowhere
 
 -- a message's fields by their numbers in the C interface
 abbrev pub fieldsOf : Message → List (ℕ × List ℕ)
@@ -61,14 +61,14 @@ fieldsRead s (Read.accepted fields taken) = fieldsOf (meaning s fields)
 
 -- the part with a field's number is what `message` hands back for the field's name
 pub record FieldsNamed (s : List ℕ) : Type 0 where
-  pub identifier : partIn s (fieldPlace s 1) ≡ field s Field.Identifier
-  pub profileList : partIn s (fieldPlace s 2) ≡ field s Field.ProfileList
-  pub mki : partIn s (fieldPlace s 3) ≡ field s Field.Mki
-  pub clientKey : partIn s (fieldPlace s 4) ≡ field s Field.ClientKey
-  pub serverKey : partIn s (fieldPlace s 5) ≡ field s Field.ServerKey
-  pub clientSalt : partIn s (fieldPlace s 6) ≡ field s Field.ClientSalt
-  pub serverSalt : partIn s (fieldPlace s 7) ≡ field s Field.ServerSalt
-  pub dtls : partIn s (fieldPlace s 8) ≡ field s Field.Dtls
+  pub identifier : partIn s (fieldBounds s 1) ≡ field s Field.Identifier
+  pub profileList : partIn s (fieldBounds s 2) ≡ field s Field.ProfileList
+  pub mki : partIn s (fieldBounds s 3) ≡ field s Field.Mki
+  pub clientKey : partIn s (fieldBounds s 4) ≡ field s Field.ClientKey
+  pub serverKey : partIn s (fieldBounds s 5) ≡ field s Field.ServerKey
+  pub clientSalt : partIn s (fieldBounds s 6) ≡ field s Field.ClientSalt
+  pub serverSalt : partIn s (fieldBounds s 7) ≡ field s Field.ServerSalt
+  pub dtls : partIn s (fieldBounds s 8) ≡ field s Field.Dtls
 
 -- the parts of a packet by their numbers in the C interface
 abbrev pub partsOf : (packet : List ℕ) → Split.Split → List (ℕ × List ℕ)
@@ -83,21 +83,21 @@ partsOf packet (Split.extension messageType start end) = (1, front packet) ∷ (
 abbrev pub IsRefusal : (answer number : ℕ) → Type 0
 IsRefusal answer number = (answer ≡ topBit + number) × (number < 256)
 
-abbrev pub SortTold : Sort.Answer → Type 0
-SortTold (Sort.refused number) = IsRefusal (sortNumber (Sort.refused number)) number
-SortTold (Sort.kind k) = sortNumber (Sort.kind k) < topBit
+abbrev pub SortTopBit : Sort.Answer → Type 0
+SortTopBit (Sort.refused number) = IsRefusal (sortNumber (Sort.refused number)) number
+SortTopBit (Sort.kind k) = sortNumber (Sort.kind k) < topBit
 
-abbrev pub ReadTold : List ℕ → Read.Answer → Type 0
-ReadTold s Read.moreNeeded = readNumber s Read.moreNeeded < topBit
-ReadTold s (Read.refused number taken) = IsRefusal (readNumber s (Read.refused number taken)) number
-ReadTold s (Read.accepted fields taken) = readNumber s (Read.accepted fields taken) < topBit
+abbrev pub ReadTopBit : List ℕ → Read.Answer → Type 0
+ReadTopBit s Read.moreNeeded = readNumber s Read.moreNeeded < topBit
+ReadTopBit s (Read.refused number taken) = IsRefusal (readNumber s (Read.refused number taken)) number
+ReadTopBit s (Read.accepted fields taken) = readNumber s (Read.accepted fields taken) < topBit
 
-abbrev pub WriteTold : Write.Verdict → Type 0
-WriteTold (Write.refused number) = IsRefusal (writeNumber (Write.refused number)) number
-WriteTold (Write.written count) = writeNumber (Write.written count) < topBit
+abbrev pub WriteTopBit : Write.Verdict → Type 0
+WriteTopBit (Write.refused number) = IsRefusal (writeNumber (Write.refused number)) number
+WriteTopBit (Write.written count) = writeNumber (Write.written count) < topBit
 
-abbrev pub TagTold : Split.Split → Type 0
-TagTold (Split.refused number) = IsRefusal (tagType (Split.refused number)) number
-TagTold (Split.short start) = tagType (Split.short start) < topBit
-TagTold (Split.full spi epoch start end) = tagType (Split.full spi epoch start end) < topBit
-TagTold (Split.extension messageType start end) = tagType (Split.extension messageType start end) < topBit
+abbrev pub TagTopBit : Split.Split → Type 0
+TagTopBit (Split.refused number) = IsRefusal (tagType (Split.refused number)) number
+TagTopBit (Split.short start) = tagType (Split.short start) < topBit
+TagTopBit (Split.full spi epoch start end) = tagType (Split.full spi epoch start end) < topBit
+TagTopBit (Split.extension messageType start end) = tagType (Split.extension messageType start end) < topBit

@@ -16,8 +16,8 @@ tagType (full spi epoch start end) = 2
 tagType (extension messageType start end) = messageType
 
 -- where a part stands, by its number in the C interface: 1 front, 2 ciphertext, 3 extension data
-unfoldable pub partPlace : Split → (part : ℕ) → Bounds
-partPlace s part =
+unfoldable pub partBounds : Split → (part : ℕ) → Bounds
+partBounds s part =
     cond (eqb part 1) (frontBounds s)
     (cond (eqb part 2) (ciphertextBounds s)
     (cond (eqb part 3) (dataBounds s)

@@ -1,16 +1,16 @@
 // Where a field of the message at the front of s stands: 1 identifier, 2 profile list, 3 MKI,
 // 4 client key, 5 server key, 6 client salt, 7 server salt, 8 DTLS octets.
-use message::Places;
+use message::FieldBounds;
 use octets::Bounds;
 use octets::NOWHERE;
 ghost use mathlib.Core.Path.{_≡_};
 ghost use lib.ListN.{length};
 ghost use Rattle.octets.specs.Bounds.{partIn};
-ghost use Rattle.shawm.specs.Fields.{numberedPlace, fieldPlace};
+ghost use Rattle.shawm.specs.Fields.{numberedBounds, fieldBounds};
 
-// The place of the field with this number.
-fn numbered_place(p: Places, field: u32) -> Bounds
-    ensures { λ r. ⌜ r ≡ numberedPlace p field ⌝ }
+// The bounds of the field with this number.
+fn numbered_bounds(p: FieldBounds, field: u32) -> Bounds
+    ensures { λ r. ⌜ r ≡ numberedBounds p field ⌝ }
 {
     match field {
         1 => p.identifier,
@@ -25,24 +25,24 @@ fn numbered_place(p: Places, field: u32) -> Bounds
     }
 }
 
-fn field_place(s: &[u8], field: u32) -> Bounds
-    ensures { λ r. ⌜ r ≡ fieldPlace (now (s .entry)) field ⌝ }
+fn field_bounds(s: &[u8], field: u32) -> Bounds
+    ensures { λ r. ⌜ r ≡ fieldBounds (now (s .entry)) field ⌝ }
 {
-    numbered_place(message::places_of(message::read_message(s)), field)
+    numbered_bounds(message::bounds_of(message::read_message(s)), field)
 }
 
-// The place of its first octet; 0 where there is no such field.
+// The offset of its first octet; 0 where there is no such field.
 #[no_mangle]
 pub extern "C" fn shawm_field_start(s: &[u8], field: u32) -> usize
-    ensures { λ r. ⌜ r ≡ fieldPlace (now (s .entry)) field .start ⌝ }
+    ensures { λ r. ⌜ r ≡ fieldBounds (now (s .entry)) field .start ⌝ }
 {
-    field_place(s, field).start
+    field_bounds(s, field).start
 }
 
 // The number of its octets; 0 where there is no such field.
 #[no_mangle]
 pub extern "C" fn shawm_field_length(s: &[u8], field: u32) -> usize
-    ensures { λ r. ⌜ r ≡ length (partIn (now (s .entry)) (fieldPlace (now (s .entry)) field)) ⌝ }
+    ensures { λ r. ⌜ r ≡ length (partIn (now (s .entry)) (fieldBounds (now (s .entry)) field)) ⌝ }
 {
-    octets::part_in(s, field_place(s, field)).len()
+    octets::part_in(s, field_bounds(s, field)).len()
 }

@@ -30,9 +30,9 @@ fn tag_type(tag: Tag) -> u32
     }
 }
 
-// The place of the part with this number.
-fn part_place(tag: Tag, part: u32) -> Bounds
-    ensures { λ r. ⌜ r ≡ Spec.partPlace (answerOf tag) part ⌝ }
+// The bounds of the part with this number.
+fn part_bounds(tag: Tag, part: u32) -> Bounds
+    ensures { λ r. ⌜ r ≡ Spec.partBounds (answerOf tag) part ⌝ }
 {
     match part {
         1 => ekt::front_bounds(tag),
@@ -80,20 +80,20 @@ pub extern "C" fn shawm_tag(packet: &[u8]) -> u32
     tag_type(ekt::split(packet))
 }
 
-// The place of the first octet of a part; 0 where there is no such part.
+// The offset of the first octet of a part; 0 where there is no such part.
 #[no_mangle]
 pub extern "C" fn shawm_tag_start(packet: &[u8], part: u32) -> usize
-    ensures { λ r. ⌜ r ≡ Spec.partPlace (splitting (now (packet .entry))) part .start ⌝ }
+    ensures { λ r. ⌜ r ≡ Spec.partBounds (splitting (now (packet .entry))) part .start ⌝ }
 {
-    part_place(ekt::split(packet), part).start
+    part_bounds(ekt::split(packet), part).start
 }
 
 // The number of octets of a part; 0 where there is no such part.
 #[no_mangle]
 pub extern "C" fn shawm_tag_length(packet: &[u8], part: u32) -> usize
-    ensures { λ r. ⌜ r ≡ length (partIn (now (packet .entry)) (Spec.partPlace (splitting (now (packet .entry))) part)) ⌝ }
+    ensures { λ r. ⌜ r ≡ length (partIn (now (packet .entry)) (Spec.partBounds (splitting (now (packet .entry))) part)) ⌝ }
 {
-    octets::part_in(packet, part_place(ekt::split(packet), part)).len()
+    octets::part_in(packet, part_bounds(ekt::split(packet), part)).len()
 }
 
 // The SPI or the epoch of a Full tag; 0 where there is none.

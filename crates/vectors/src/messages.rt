@@ -86,7 +86,7 @@ fn media_keys(lent: &[u8], profile: u16) {
     field(words::SERVER_SALT, lent, Field::ServerSalt);
 }
 
-// With the place of its first DTLS octet, A + 5.
+// With the offset of its first DTLS octet, A + 5.
 fn tunneled_dtls(lent: &[u8]) {
     identified(words::TUNNELED_DTLS, lent);
     print::part(words::DTLS_OCTETS, message::dtls(lent));
@@ -94,6 +94,6 @@ fn tunneled_dtls(lent: &[u8]) {
 }
 
 fn start_of(lent: &[u8], field: Field) -> usize {
-    let places = message::places_of(message::read_message(lent));
-    message::place_of(places, field).start
+    let bounds = message::bounds_of(message::read_message(lent));
+    message::bounds_for(bounds, field).start
 }

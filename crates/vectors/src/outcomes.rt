@@ -53,15 +53,22 @@ fn told(answer: Received, lent: &[u8]) {
         Received::Refused { number, taken } => messages::refused(number, taken),
         Received::BadBody { taken } => messages::refused(octets::refusal::BAD_BODY, taken),
         Received::MoreNeeded => messages::done(words::MORE_NEEDED, 0),
-        Received::KeysStored { taken } => messages::done(words::KEYS_STORED, taken),
+        Received::KeysStored { endpoint, taken } => named(words::KEYS_STORED, endpoint, taken),
         Received::Delivery {
             endpoint,
             dtls,
             taken,
         } => delivery(lent, endpoint, dtls, taken),
-        Received::Disconnected { taken } => messages::done(words::DISCONNECTED, taken),
+        Received::Disconnected { endpoint, taken } => named(words::DISCONNECTED, endpoint, taken),
         Received::Version { version, taken } => version_told(version, taken),
     }
+}
+
+// With the endpoint of the association that the message names.
+fn named(word: usize, endpoint: u32, taken: usize) {
+    say(word);
+    print::count(words::ENDPOINT, endpoint as usize);
+    messages::took(taken);
 }
 
 // With the DTLS octets, which stand in the lent ones.

@@ -13,6 +13,7 @@ pub enum Answer {
     /// `again`: the record was keyed before. It is not part of the frame.
     Stored {
         taken: usize,
+        endpoint: u32,
         again: bool,
     },
     Delivery {
@@ -22,6 +23,7 @@ pub enum Answer {
     },
     Removed {
         taken: usize,
+        endpoint: u32,
     },
     Version {
         taken: usize,
@@ -62,7 +64,10 @@ impl Answer {
             }
             Answer::Written(octets) | Answer::Found(octets) => out.extend_from_slice(octets),
             Answer::Placed(number) => put16(out, *number),
-            Answer::Stored { taken, .. } | Answer::Removed { taken } => put16(out, *taken),
+            Answer::Stored { taken, endpoint, .. } | Answer::Removed { taken, endpoint } => {
+                put16(out, *taken);
+                out.extend_from_slice(&endpoint.to_be_bytes());
+            }
             Answer::Delivery { taken, endpoint, octets } => {
                 put16(out, *taken);
                 out.extend_from_slice(&endpoint.to_be_bytes());

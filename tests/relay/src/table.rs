@@ -254,19 +254,20 @@ impl Table {
             Front::Whole(kind, body) => {
                 let place = self.place_of_identifier(&body[..A]).expect("a live association");
                 let record = self.places[place].as_mut().expect("a record");
+                let endpoint = record.endpoint;
                 match kind {
                     3 => {
                         let again = record.keys.is_some();
                         record.keys = media_keys(body).map(|keys| keys.kept());
-                        Answer::Stored { taken, again }
+                        Answer::Stored { taken, endpoint, again }
                     }
                     4 => {
                         let octets = body[A + 2..].to_vec();
-                        Answer::Delivery { taken, endpoint: record.endpoint, octets }
+                        Answer::Delivery { taken, endpoint, octets }
                     }
                     _ => {
                         self.places[place] = None;
-                        Answer::Removed { taken }
+                        Answer::Removed { taken, endpoint }
                     }
                 }
             }

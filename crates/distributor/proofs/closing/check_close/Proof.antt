@@ -40,7 +40,6 @@ check-close-spec =
     (λ c κs. search needs)
     (λ c κs. search needs)
     returns-3
-    (λ c. search needs)
     (λ c κs. search needs)
     returns-4
     returns-5)

@@ -8,7 +8,7 @@ use Rattle.distributor.proofs.receiving.list_of.Tie as tie
 
 returns : tie.Need-returns
 unfolding listOf
-returns c = c .part2 .ensures ∙ part-front _ _ ∙ ap₂ take (c .before .octet .ensures) (c .before .before .part .ensures)
+returns c = c .part2 .ensures .octets ∙ part-front _ _ ∙ ap₂ take (c .before .octet .ensures) (c .before .before .part .ensures .octets)
 
 pub list-of-spec : {M : Type 1} → statement M
 list-of-spec =

@@ -23,8 +23,6 @@ packet-refusal-spec =
     (λ c κs. search needs)
     returns
     (λ c. search needs)
-    (λ c. search needs)
-    (λ c. search needs)
     returns-2
     returns-3
     returns-4)

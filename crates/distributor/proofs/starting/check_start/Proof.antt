@@ -35,7 +35,6 @@ check-start-spec =
     (λ c κs. search needs)
     returns-2
     (λ c. search needs)
-    (λ c. search needs)
     (λ c κs. search needs)
     returns-3
     returns-4)

@@ -23,7 +23,7 @@ use Rattle.distributor.proofs.storing.put_up.Tie as tie
 abbrev zeros : ℕ → List ℕ
 zeros n = replicate n 0
 
--- an emptied block, from one place to another
+-- an emptied block, from one offset to another
 zeros-part : (x : List ℕ) (a : ℕ) → a ≤ blockLength → x ≡ zeros blockLength → part x 0 a ≡ zeros a
 zeros-part x a h e =
     let n : blockLength ≡ a + (blockLength - a) = omega arith in
@@ -59,7 +59,7 @@ module _ (x y z t l : List ℕ) (e : x ≡ zeros blockLength) where
       (ap (λ (u : List ℕ). ((u ++ (1 ∷ [])) ++ (length l ∷ [])) ++ f) q
       ∙ ap (λ (u : List ℕ). u ++ f) (append-assoc (zeros tunnelAt) (1 ∷ []) (length l ∷ []))
       ∙ append-assoc (zeros tunnelAt) (1 ∷ length l ∷ []) f)
-      (ap (λ (j : ℕ). drop j x) (sym (w4 .place) ∙ i) ∙ zeros-rest x indexAt (omega arith) e)
+      (ap (λ (j : ℕ). drop j x) (sym (w4 .offset) ∙ i) ∙ zeros-rest x indexAt (omega arith) e)
 
 returns : tie.Need-returns
 returns c =

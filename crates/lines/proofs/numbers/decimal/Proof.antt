@@ -5,7 +5,7 @@ use lib.ListN.{length}
 use Rattle.lines.proofs.numbers.decimal.Statement.{statement}
 use Rattle.lines.proofs.numbers.decimal.Tie as tie
 
--- the place is within the octets, and the loop ends behind the last
+-- the offset is within the octets, and the loop ends behind the last
 abbrev Inv-loop : tie.InvT-loop
 Inv-loop digits n₀ i₀ i-end n i = (i ≤ length digits) × (i-end ≡ length digits)
 

@@ -5,7 +5,7 @@ use lib.ListN.{length}
 use Rattle.lines.proofs.numbers.from.Statement.{statement}
 use Rattle.lines.proofs.numbers.from.Tie as tie
 
--- the place is within the octets, and the loop ends behind the last
+-- the offset is within the octets, and the loop ends behind the last
 abbrev Inv-loop : tie.InvT-loop
 Inv-loop line back left₀ i₀ i-end left i = (i ≤ length line) × (i-end ≡ length line)
 

@@ -5,7 +5,7 @@ use lib.ListN.{length}
 use Rattle.lines.proofs.pieces.find.Statement.{statement}
 use Rattle.lines.proofs.pieces.find.Tie as tie
 
--- the place is within the octets, and the loop ends behind the last
+-- the offset is within the octets, and the loop ends behind the last
 abbrev Inv-loop : tie.InvT-loop
 Inv-loop s x i₀ i-end i = (i ≤ length s) × (i-end ≡ length s)
 

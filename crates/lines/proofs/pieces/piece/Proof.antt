@@ -5,7 +5,7 @@ use lib.ListN.{length}
 use Rattle.lines.proofs.pieces.piece.Statement.{statement}
 use Rattle.lines.proofs.pieces.piece.Tie as tie
 
--- the place is within the octets, and the loop ends behind the last
+-- the offset is within the octets, and the loop ends behind the last
 abbrev Inv-loop : tie.InvT-loop
 Inv-loop list n left₀ i₀ i-end left i = (i ≤ length list) × (i-end ≡ length list)
 

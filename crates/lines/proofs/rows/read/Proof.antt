@@ -5,7 +5,7 @@ use lib.ListN.{length}
 use Rattle.lines.proofs.rows.read.Statement.{statement}
 use Rattle.lines.proofs.rows.read.Tie as tie
 
--- the place is within the row, the loop ends behind its last, and the output keeps its length
+-- the offset is within the row, the loop ends behind its last, and the output keeps its length
 abbrev Inv-loop : tie.InvT-loop
 Inv-loop line out₀ row at₀ i₀ i-end out at i = (i ≤ length row) × (i-end ≡ length row) × (length out ≡ length out₀)
 

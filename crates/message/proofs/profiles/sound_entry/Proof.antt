@@ -12,7 +12,7 @@ returns : tie.Need-returns
 returns c =
     let a = c .before .before .before .before .before .args in
     let l = now (a .list) in
-    let p : now (c .before .part .result) ≡ drop (a .next) l = c .before .part .ensures ∙ part-tail l (a .next) (length l) (le-refl _) in
+    let p : now (c .before .part .result) ≡ drop (a .next) l = c .before .part .ensures .octets ∙ part-tail l (a .next) (length l) (le-refl _) in
     let i : c .in-list .result ≡ Spec.inList (c .before .before .before .number16 .result) (drop (a .next) l) = c .in-list .ensures ∙ ap (Spec.inList (c .before .before .before .number16 .result)) p in
     rw (← (c .before .before .before .number16 .ensures), ← i, ← (c .before .before .is-profile .ensures))
 

@@ -20,7 +20,7 @@ returns c =
     let a = c .before .before .before .before .before .before .before .before .before .args in
     let w = wrote-more (a .message-type ∷ []) (wrote-none (now (a .out))) (omega (arith, c .before .before .before .before .before .before .before .before .before .pre)) (c .before .before .before .before .before .before .put-octet .ensures .0) (c .before .before .before .before .before .before .put-octet .ensures .1) in
     let v = wrote-more (octets16 (a .count - header)) w (omega (arith, c .before .before .before .before .before .before .before .before .before .pre)) (c .before .before .put-number16 .ensures .0) (c .before .before .put-number16 .ensures .1) in
-    (v .place, v .output)
+    (v .offset, v .output)
 
 pub put-header-spec : {M : Type 1} → statement M
 put-header-spec = tie.close (tie.spec (λ c κs. search needs) sub-put-number16 cast-put-number16 (λ c κs. search needs) (λ c. search needs) returns)

@@ -10,17 +10,17 @@ use Rattle.message.proofs.reading.read_whole.Tie as tie
 returns : tie.Need-returns
 returns c =
     let b = Spec.bodyAnswer (header + c .before .before .before .before .before .args .body-length) in
-    ap b (ap contentOf (sym (c .enum-told .given .1)) ∙ c .before .before .read-body .ensures ∙ ap (content (c .before .before .before .before .before .args .kind)) (c .before .before .before .part .ensures))
+    ap b (ap contentOf (sym (c .enum-told .given .1)) ∙ c .before .before .read-body .ensures ∙ ap (content (c .before .before .before .before .before .args .kind)) (c .before .before .before .part .ensures .octets))
 
 returns-2 : tie.Need-returns-2
 returns-2 c =
     let b = Spec.bodyAnswer (header + c .before .before .before .before .before .args .body-length) in
-    ap b (ap contentOf (sym (c .enum-told2 .given .1)) ∙ c .before .before .read-body .ensures ∙ ap (content (c .before .before .before .before .before .args .kind)) (c .before .before .before .part .ensures))
+    ap b (ap contentOf (sym (c .enum-told2 .given .1)) ∙ c .before .before .read-body .ensures ∙ ap (content (c .before .before .before .before .before .args .kind)) (c .before .before .before .part .ensures .octets))
 
 returns-3 : tie.Need-returns-3
 returns-3 c =
     let b = Spec.bodyAnswer (header + c .before .before .before .before .before .before .args .body-length) in
-    ap b (ap contentOf (sym (c .before .fields .given .1)) ∙ c .before .before .before .read-body .ensures ∙ ap (content (c .before .before .before .before .before .before .args .kind)) (c .before .before .before .before .part .ensures))
+    ap b (ap contentOf (sym (c .before .fields .given .1)) ∙ c .before .before .before .read-body .ensures ∙ ap (content (c .before .before .before .before .before .before .args .kind)) (c .before .before .before .before .part .ensures .octets))
 
 pub read-whole-spec : {M : Type 1} → statement M
 read-whole-spec =

@@ -12,11 +12,11 @@ use Rattle.rows.proofs.arrays.array16.Tie as tie
 returns : tie.Need-returns
 returns c =
     let a = c .before .before .before .before .before .before .before .before .before .before .args in
-    let t = c .before .before .before .before .before .before .before .before .part .ensures in
+    let t = c .before .before .before .before .before .before .before .before .part .ensures .octets in
     let z : List ℕ = replicate 16 0 in
     let l = length-replicate {A = ℕ} 16 0 in
-    let w1 = more-put z _ _ 0 8 (omega arith) refl _ _ (c .before .before .before .before .before .before .part2 .ensures) (c .before .before .before .before .before .put-octets .ensures .1) in
-    let w2 = more-put z _ _ 8 8 (omega arith) w1 _ _ (c .before .before .part3 .ensures) (c .before .put-octets2 .ensures .1) in
+    let w1 = more-put z _ _ 0 8 (omega arith) refl _ _ (c .before .before .before .before .before .before .part2 .ensures .octets) (c .before .before .before .before .before .put-octets .ensures .1) in
+    let w2 = more-put z _ _ 8 8 (omega arith) w1 _ _ (c .before .before .part3 .ensures .octets) (c .before .put-octets2 .ensures .1) in
     all-put 16 (now (a .s)) _ _ (a .at) t w2
 
 pub array16-spec : {M : Type 1} → statement M

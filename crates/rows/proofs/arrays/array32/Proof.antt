@@ -12,13 +12,13 @@ use Rattle.rows.proofs.arrays.array32.Tie as tie
 returns : tie.Need-returns
 returns c =
     let a = c .before .before .before .before .before .before .before .before .before .before .before .before .before .before .before .before .before .before .args in
-    let t = c .before .before .before .before .before .before .before .before .before .before .before .before .before .before .before .before .part .ensures in
+    let t = c .before .before .before .before .before .before .before .before .before .before .before .before .before .before .before .before .part .ensures .octets in
     let z : List ℕ = replicate 32 0 in
     let l = length-replicate {A = ℕ} 32 0 in
-    let w1 = more-put z _ _ 0 8 (omega arith) refl _ _ (c .before .before .before .before .before .before .before .before .before .before .before .before .before .before .part2 .ensures) (c .before .before .before .before .before .before .before .before .before .before .before .before .before .put-octets .ensures .1) in
-    let w2 = more-put z _ _ 8 8 (omega arith) w1 _ _ (c .before .before .before .before .before .before .before .before .before .before .part3 .ensures) (c .before .before .before .before .before .before .before .before .before .put-octets2 .ensures .1) in
-    let w3 = more-put z _ _ 16 8 (omega arith) w2 _ _ (c .before .before .before .before .before .before .part4 .ensures) (c .before .before .before .before .before .put-octets3 .ensures .1) in
-    let w4 = more-put z _ _ 24 8 (omega arith) w3 _ _ (c .before .before .part5 .ensures) (c .before .put-octets4 .ensures .1) in
+    let w1 = more-put z _ _ 0 8 (omega arith) refl _ _ (c .before .before .before .before .before .before .before .before .before .before .before .before .before .before .part2 .ensures .octets) (c .before .before .before .before .before .before .before .before .before .before .before .before .before .put-octets .ensures .1) in
+    let w2 = more-put z _ _ 8 8 (omega arith) w1 _ _ (c .before .before .before .before .before .before .before .before .before .before .part3 .ensures .octets) (c .before .before .before .before .before .before .before .before .before .put-octets2 .ensures .1) in
+    let w3 = more-put z _ _ 16 8 (omega arith) w2 _ _ (c .before .before .before .before .before .before .part4 .ensures .octets) (c .before .before .before .before .before .put-octets3 .ensures .1) in
+    let w4 = more-put z _ _ 24 8 (omega arith) w3 _ _ (c .before .before .part5 .ensures .octets) (c .before .put-octets4 .ensures .1) in
     all-put 32 (now (a .s)) _ _ (a .at) t w4
 
 pub array32-spec : {M : Type 1} → statement M

@@ -11,14 +11,14 @@ use Rattle.rows.proofs.padding.pad.Tie as tie
 put-short-requires : tie.Need-put-short-requires
 put-short-requires c κs =
     let a = c .before .before .before .before .before .before .before .before .args in
-    let p = ap length (c .part .ensures ∙ part-front (now (a .s)) (a .n)) ∙ length-take (a .n) (now (a .s)) in
+    let p = ap length (c .part .ensures .octets ∙ part-front (now (a .s)) (a .n)) ∙ length-take (a .n) (now (a .s)) in
     omega (arith, c .before .before .before .before .before .before .before .before .pre)
 
 returns : tie.Need-returns
 returns c =
     let a = c .before .before .before .before .before .before .before .before .before .before .before .args in
     c .before .before .put-short .ensures
-    ∙ padded-over (now (a .out)) _ _ (now (a .s)) (a .at) (a .n) (c .before .before .before .before .before .before .before .before .before .before .before .pre) (c .before .before .before .before .before .before .before .put-zeros .ensures) (c .before .before .before .part .ensures)
+    ∙ padded-over (now (a .out)) _ _ (now (a .s)) (a .at) (a .n) (c .before .before .before .before .before .before .before .before .before .before .before .pre) (c .before .before .before .before .before .before .before .put-zeros .ensures) (c .before .before .before .part .ensures .octets)
 
 pub pad-spec : {M : Type 1} → statement M
 pad-spec =

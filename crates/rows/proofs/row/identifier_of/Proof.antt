@@ -5,7 +5,7 @@ use Rattle.rows.proofs.row.identifier_of.Tie as tie
 
 returns : tie.Need-returns
 unfolding L.identifierOf
-returns c = c .part .ensures
+returns c = c .part .ensures .octets
 
 pub identifier-of-spec : {M : Type 1} → statement M
 identifier-of-spec = tie.close (tie.spec (λ c. search needs) (λ c κs. search needs) returns)

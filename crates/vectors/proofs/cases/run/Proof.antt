@@ -5,7 +5,7 @@ use lib.ListN.{length}
 use Rattle.vectors.proofs.cases.run.Statement.{statement}
 use Rattle.vectors.proofs.cases.run.Tie as tie
 
--- the place is within the octets, and the loop ends behind the last
+-- the offset is within the octets, and the loop ends behind the last
 abbrev Inv-loop : tie.InvT-loop
 Inv-loop cases state₀ i₀ i-end state i = (i ≤ length cases) × (i-end ≡ length cases)
 

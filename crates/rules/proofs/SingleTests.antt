@@ -1,0 +1,105 @@
+-- The single tests of Refusals say what they mean.
+use Prim.Native.Nat.{ℕ, _+_, _-_, _≤_, _<_}
+use mathlib.Core.Path.{_≡_, refl, sym, ap, _∙_}
+use mathlib.Core.Logic.{_↔_, _⊎_, inl, inr, ⊎-elim}
+use mathlib.Core.Bool.{true, false, not}
+use mathlib.Core.List.{List, [], _∷_}
+use native.Mathlib.Omega.{arith}
+use lib.ListN.{length, length-append}
+use lib.Dec.{ltb}
+use borrow.Author.Tests.{lt-ltb, eq-eqb, ne-eqb, ltb-true, eqb-false, not-true}
+use Rattle.octets.specs.Number.{octetAt}
+use Rattle.octets.specs.Range.{within}
+use Rattle.octets.proofs.Tests.{by-choice, false-true}
+use Rattle.octets.proofs.RangeLaws.{inside, below, above}
+use Rattle.demux.specs.Sorting as Sorting
+use Rattle.demux.specs.declared.sorting.Kind.{Kind}
+use Rattle.message.specs.Limits.{bodyLimit}
+use Rattle.message.specs.Message.{Message, tunneledDtls, encodeBody, encode}
+use Rattle.message.specs.Write.{Verdict, writing, refused, fitting}
+use Rattle.rules.specs.Limits.{packetLimit}
+use Rattle.rules.specs.Refusals as Refusals
+use Rattle.rules.specs.Refusals.{isDtlsKind}
+use Rattle.rules.specs.SingleTests.{SingleTests}
+use Rattle.rules.proofs.Cases.{by-size}
+use Rattle.rules.proofs.GoodLists.{good-list-means}
+
+-- ---- 20
+
+width-means : (identifier : List ℕ) → (Refusals.wrongWidth identifier ≡ true) ↔ (length identifier ≡ 16 → ⊥)
+width-means i = (λ h. eqb-false _ _ (not-true _ h), λ h. rw (ne-eqb _ _ h))
+
+-- ---- 14
+
+dtls-first : (x : ℕ) → 20 ≤ x → x ≤ 63 → isDtlsKind (Sorting.kindOf x) ≡ true
+unfolding Sorting.kindOf
+dtls-first x h k = simp (above 0 1 x (omega arith), inside 20 63 x h k)
+
+-- every other first octet
+abbrev Outside : ℕ → Type 0
+Outside x = (x < 20) ⊎ (63 < x)
+
+misses : (x : ℕ) → Outside x → within 20 63 x ≡ false
+misses x (inl h) = below 20 63 x h
+misses x (inr h) = above 20 63 x h
+
+other-first : (x : ℕ) → Outside x → isDtlsKind (Sorting.kindOf x) ≡ false
+unfolding Sorting.kindOf
+other-first x o =
+    let P : Kind → Type 0 = λ k. isDtlsKind k ≡ false in
+    by-choice P (within 0 1 x) _ _ (λ _. refl) (λ _. rw (misses x o) (by-choice P (within 128 191 x) _ _ (λ _. refl) (λ _. refl)))
+
+first-outside : (x : ℕ) → isDtlsKind (Sorting.kindOf x) ≡ false → Outside x
+first-outside x h = by-size x 20 inl (λ a. by-size 63 x inr (λ b. absurd (false-true (sym h ∙ dtls-first x a b))))
+
+not-dtls-means : (packet : List ℕ) → (Refusals.notDtls packet ≡ true) ↔ ((length packet ≡ 0) ⊎ Outside (octetAt packet 0))
+unfolding Refusals.notDtls Sorting.sorting
+not-dtls-means [] = (λ h. inl refl, λ h. refl)
+not-dtls-means (x ∷ l) = (
+  λ h. inr (first-outside x (not-true _ h)),
+  ⊎-elim (λ e. absurd (omega arith)) (λ o. ap not (other-first x o)),
+)
+
+-- ---- 15
+
+too-long-means : (packet : List ℕ) → (Refusals.tooLong packet ≡ true) ↔ (4094 - 16 < length packet)
+too-long-means packet = (ltb-true packetLimit (length packet), lt-ltb packetLimit (length packet))
+
+module _ (i packet : List ℕ) (room : ℕ) (w : length i ≡ 16) (some : 1 ≤ length packet) (told : length packet ≤ 65535) where
+  abbrev m : Message
+  m = tunneledDtls i packet
+
+  body-length : length (encodeBody m) ≡ 18 + length packet
+  body-length = simp length-append (omega arith)
+
+  fits : writing m room ≡ fitting (length (encodeBody m)) (length (encode m)) room
+  unfolding writing
+  fits = rw (eq-eqb _ _ w, inside 1 65535 _ some told)
+
+  -- refusal 2, and no other, is for a body over the limit
+  abbrev Over : Verdict → Type 0
+  Over v = v ≡ refused 2 → bodyLimit < length (encodeBody m)
+
+  over : Over (fitting (length (encodeBody m)) (length (encode m)) room)
+  over =
+      by-choice Over (ltb bodyLimit (length (encodeBody m))) _ _ (λ e _. ltb-true _ _ e) (λ _.
+      by-choice Over (ltb room (length (encode m))) _ _
+      (λ _ q. let z : _≡_ {A = ℕ} 0 1 = cc in omega arith) (λ _ q. let z : _≡_ {A = ℕ} 0 1 = cc in omega arith))
+
+  unwritable-means : (Refusals.tooLong packet ≡ true) ↔ (writing m room ≡ refused 2)
+  unwritable-means = (
+    λ h.
+        let long = ltb-true packetLimit (length packet) h in
+        let over-long : bodyLimit < length (encodeBody m) = omega (arith, body-length) in
+        fits ∙ rw (lt-ltb bodyLimit (length (encodeBody m)) over-long),
+    λ e. lt-ltb packetLimit (length packet) (omega (arith, body-length, over (sym fits ∙ e))),
+  )
+
+pub single-tests : SingleTests
+single-tests = record {
+  wrongWidth = width-means;
+  notDtls = not-dtls-means;
+  tooLong = too-long-means;
+  unwritable = unwritable-means;
+  goodList = good-list-means;
+}
