@@ -1,8 +1,4 @@
 pub mod CheckLaws
-pub mod LoopLaws
 pub mod ReceivingLaws
 pub mod RecordReads
 pub mod Sendable
-pub mod SpotLaws
-pub mod TunneledLaws
-pub mod WritingLaws

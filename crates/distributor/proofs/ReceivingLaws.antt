@@ -1,5 +1,5 @@
 -- Laws of tunnel octets: refusal 4 by the front of the octets, and what each way through a call comes to.
-use Prim.Native.Nat.{ℕ, _<_, _≤_}
+use Prim.Native.Nat.{ℕ, _+_, _<_, _≤_}
 use mathlib.Core.Path.{_≡_, refl, sym, ap, _∙_}
 use mathlib.Core.Bool.{true, false}
 use mathlib.Core.List.{List}
@@ -8,13 +8,15 @@ use native.Mathlib.Omega.{arith}
 use borrow.Author.Tests.{lt-ltb, le-ltb}
 use lib.Dec.{ltb, eqb}
 use Rattle.octets.specs.Bounds.{partIn}
-use Rattle.message.specs.Parts.{identifierBounds, dtlsBounds}
+use Rattle.message.specs.Limits.{header, width}
+use Rattle.message.specs.Parts.{identifierBounds, dtlsBounds, dtlsIn}
 use Rattle.message.specs.Frame as Frame
 use Rattle.message.specs.Read as Read
 use Rattle.message.specs.declared.framing.Kind.{Kind}
 use Rattle.message.specs.declared.bodies.Fields.{Fields}
 use Rattle.message.specs.declared.bodies.Fields.the-variants.{MediaKeys, TunneledDtls, EndpointDisconnect}
 use Rattle.message.specs.declared.bodies.KeyLengths.{KeyLengths}
+use Rattle.message.proofs.TunneledLaws.{tunneled-told, tunneled-frame, tunneled-content}
 use Rattle.rules.specs.Limits.{places}
 use Rattle.rules.specs.Keys.{keysIn}
 use Rattle.rules.specs.Index.{withoutEntry}
@@ -50,6 +52,14 @@ received-profiles s (Frame.whole Kind.MediaKeys n) h = absurd (h refl)
 received-profiles s (Frame.whole Kind.TunneledDtls n) h = absurd (h refl)
 received-profiles s (Frame.whole Kind.EndpointDisconnect n) h = absurd (h refl)
 received-profiles s (Frame.whole Kind.Unlisted n) h = absurd (h refl)
+
+-- a whole TunneledDtls, told by its DTLS octets
+pub tunneled : (s : List ℕ) (n : ℕ) → n ≡ dtlsIn (Read.reading s) → (n ≡ 0 → ⊥) → receiving s ≡ Read.accepted (TunneledDtls n) (header + width + 2 + n)
+unfolding receiving
+tunneled s n e h =
+    let t = tunneled-told s n e h in
+    let taken : header + (width + 2 + n) ≡ header + width + 2 + n = omega arith in
+    ap (received s) (tunneled-frame s n t) ∙ ap (Read.bodyAnswer (header + (width + 2 + n))) (tunneled-content s n t) ∙ ap (Read.accepted (TunneledDtls n)) taken
 
 -- ---- an answer with the block afterwards
 

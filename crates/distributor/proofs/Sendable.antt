@@ -16,7 +16,7 @@ use Rattle.message.specs.Limits.{width, header, most16}
 use Rattle.message.specs.Message.{Message, tunneledDtls, endpointDisconnect, encode, encodeBody}
 use Rattle.message.specs.Profiles.{entries, sound, goodList}
 use Rattle.message.specs.Write as Write
-use Rattle.message.proofs.VerdictLaws.{Fits, encode-length, output-written}
+use Rattle.message.proofs.AnswerLaws.{Fits, encode-length, output-written}
 use Rattle.rules.specs.Limits.{places, listLimit, packetLimit}
 use Rattle.rules.specs.Index.{withoutEntry}
 use Rattle.rules.specs.Layout.{up, blockLength, rowOf, endpointOf, identifierOf, identifierAt, padded, vacantRow, withRow, upBlock}
@@ -203,9 +203,6 @@ module _ (s : List ℕ) (l : length s ≡ blockLength) (e : ℕ) (packet : List 
 
     packet-served : serves s e ≡ true
     packet-served = packet-passed s e packet (length out) (sym (packet-told .0))
-
-    pub packet-place : n < places
-    packet-place = there n (placeOfEndpoint s e) (packet-told .1) packet-served
 
     -- the identifier that the message has is that of the endpoint's row
     packet-identifier : (i row : List ℕ) → i ≡ padded width (part row identifierAt (identifierAt + width)) → row ≡ rowOf s n

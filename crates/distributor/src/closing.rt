@@ -1,24 +1,22 @@
 // Close.
-use crate::block::BLOCK;
-use crate::block::PLACES;
-use crate::block::is_up;
 use crate::check::Check;
 use crate::check::refused;
-use crate::search::place_of_identifier;
 use crate::sending::Sent;
 use crate::storing::put_vacant;
+use block::BLOCK;
+use block::PLACES;
+use block::is_up;
+use block::place_of_identifier;
 use message::limits::DISCONNECT_LENGTH;
 use message::limits::WIDTH;
 use octets::refusal;
 ghost use mathlib.Core.Path.{_≡_};
 ghost use lib.ListN.{length};
 ghost use Rattle.rules.specs.Call as Call;
-ghost use Rattle.rules.specs.Layout.{blockLength};
 ghost use Rattle.rules.specs.Table as Spec;
 ghost use Rattle.distributor.specs.Outcomes.{checked, Does, Sends};
 
-fn check_close(state: &[u8], identifier: &[u8], room: usize) -> Check
-    requires { ⌜ length (now state) ≡ blockLength ⌝ }
+fn check_close(state: &[u8; BLOCK], identifier: &[u8], room: usize) -> Check
     ensures { λ r. ⌜ r ≡ checked (Spec.closeVerdict (now (state .entry)) (now (identifier .entry)) room) (Spec.placeOfIdentifier (now (state .entry)) (now (identifier .entry))) ⌝ }
 {
     if !is_up(state) {
@@ -43,7 +41,7 @@ pub fn close(state: &mut [u8; BLOCK], identifier: &[u8], out: &mut [u8]) -> Sent
 {
     match check_close(state, identifier, out.len()) {
         Check::Allowed { place } => {
-            message::write_endpoint_disconnect(identifier, out);
+            writers::write_endpoint_disconnect(identifier, out);
             put_vacant(state, place);
             Sent::Written {
                 count: DISCONNECT_LENGTH,

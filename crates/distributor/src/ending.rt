@@ -1,7 +1,7 @@
 // End.
-use crate::block::BLOCK;
-use crate::block::is_up;
 use crate::storing::put_down;
+use block::BLOCK;
+use block::is_up;
 use octets::refusal;
 ghost use mathlib.Core.Path.{_≡_};
 ghost use Rattle.rules.specs.Call as Call;

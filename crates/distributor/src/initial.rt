@@ -1,5 +1,5 @@
 // The first state.
-use crate::block::BLOCK;
+use block::BLOCK;
 ghost use mathlib.Core.Path.{_≡_};
 ghost use Rattle.rules.specs.Layout.{downBlock};
 

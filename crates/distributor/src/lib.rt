@@ -1,21 +1,15 @@
 // Tunnel and table of a media distributor (RFC 9185, section 5; document 01, "The record and its
 // calls"), in one block of octets that the caller lends.
-mod block;
 mod check;
 mod closing;
 mod ending;
-mod index;
 mod initial;
 mod looking;
-mod lookup;
-mod moving;
 mod opening;
 mod receiving;
-mod search;
 mod sending;
 mod starting;
 mod storing;
-mod tunneled;
 
 pub use block::BLOCK;
 pub use block::PLACES;

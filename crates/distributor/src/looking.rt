@@ -1,9 +1,9 @@
 // Look.
-use crate::block::BLOCK;
-use crate::block::PLACES;
-use crate::block::is_up;
-use crate::block::row_at;
-use crate::lookup::place_of_endpoint;
+use block::BLOCK;
+use block::PLACES;
+use block::is_up;
+use block::place_of_endpoint;
+use block::row_at;
 use octets::refusal;
 use rows::array16;
 use rows::array32;
@@ -130,8 +130,7 @@ fn record_of(row: &[u8]) -> Record
 pub fn look(state: &[u8; BLOCK], endpoint: u32) -> Looked
     ensures { λ r. ⌜ (R.lookOf r ≡ Spec.answer (now (state .entry)) (Call.look endpoint)) × (r .record ≡ R.lookRecord (now (state .entry)) endpoint) ⌝ }
 {
-    let s: &[u8] = state;
-    if !is_up(s) {
+    if !is_up(state) {
         return Looked {
             answer: Found::Refused {
                 number: refusal::TUNNEL_DOWN,
@@ -139,7 +138,7 @@ pub fn look(state: &[u8; BLOCK], endpoint: u32) -> Looked
             record: no_record(),
         };
     }
-    let found = place_of_endpoint(s, endpoint);
+    let found = place_of_endpoint(state, endpoint);
     let place = found.place;
     if PLACES <= place {
         return Looked {
@@ -151,6 +150,6 @@ pub fn look(state: &[u8; BLOCK], endpoint: u32) -> Looked
     }
     Looked {
         answer: Found::Here,
-        record: record_of(row_at(s, place)),
+        record: record_of(row_at(state, place)),
     }
 }

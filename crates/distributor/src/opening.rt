@@ -1,20 +1,18 @@
 // Open.
-use crate::block::BLOCK;
-use crate::block::PLACES;
-use crate::block::is_up;
 use crate::check::Check;
 use crate::check::refused;
-use crate::search::is_taken;
-use crate::search::place_of_identifier;
-use crate::search::vacant_place;
 use crate::storing::put_open;
+use block::BLOCK;
+use block::PLACES;
+use block::is_taken;
+use block::is_up;
+use block::place_of_identifier;
+use block::vacant_place;
 use message::limits::WIDTH;
 use octets::refusal;
 ghost use mathlib.Core.Path.{_≡_};
 ghost use mathlib.Core.Bool.{cond};
-ghost use lib.ListN.{length};
 ghost use Rattle.rules.specs.Call as Call;
-ghost use Rattle.rules.specs.Layout.{blockLength};
 ghost use Rattle.rules.specs.Table as Spec;
 ghost use Rattle.distributor.specs.Outcomes.{checked, Does, openedOf};
 
@@ -24,8 +22,7 @@ pub enum Opened {
 }
 
 // The identifier or the endpoint is taken; the identifier's refusal comes first.
-fn refused_taken(state: &[u8], identifier: &[u8]) -> Check
-    requires { ⌜ length (now state) ≡ blockLength ⌝ }
+fn refused_taken(state: &[u8; BLOCK], identifier: &[u8]) -> Check
     ensures { λ r. ⌜ r ≡ Check.Refused (cond (Spec.knows (now (state .entry)) (now (identifier .entry))) 11 12) ⌝ }
 {
     if place_of_identifier(state, identifier) < PLACES {
@@ -34,8 +31,7 @@ fn refused_taken(state: &[u8], identifier: &[u8]) -> Check
     refused(refusal::ENDPOINT_LIVE)
 }
 
-fn check_open(state: &[u8], identifier: &[u8], endpoint: u32) -> Check
-    requires { ⌜ length (now state) ≡ blockLength ⌝ }
+fn check_open(state: &[u8; BLOCK], identifier: &[u8], endpoint: u32) -> Check
     ensures { λ r. ⌜ r ≡ checked (Spec.openVerdict (now (state .entry)) (now (identifier .entry)) endpoint) (Spec.vacantPlace (now (state .entry))) ⌝ }
 {
     if !is_up(state) {

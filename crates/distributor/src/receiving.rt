@@ -1,17 +1,16 @@
 // Tunnel octets.
-use crate::block::BLOCK;
-use crate::block::LIST;
-use crate::block::LIST_LIMIT;
-use crate::block::PLACES;
-use crate::block::is_up;
-use crate::block::row_at;
 use crate::check::Check;
 use crate::check::refused;
-use crate::search::place_of_identifier;
 use crate::storing::put_down;
 use crate::storing::put_keys;
 use crate::storing::put_vacant;
-use crate::tunneled::whole_dtls;
+use block::BLOCK;
+use block::PLACES;
+use block::is_up;
+use block::layout::LIST;
+use block::layout::LIST_LIMIT;
+use block::place_of_identifier;
+use block::row_at;
 use message::Body;
 use message::Fields;
 use message::Frame;
@@ -24,7 +23,6 @@ use octets::refusal;
 use rows::endpoint_of;
 ghost use mathlib.Core.Path.{_≡_};
 ghost use mathlib.Core.Option.{some};
-ghost use lib.ListN.{length};
 ghost use Rattle.rules.specs.Call as Call;
 ghost use Rattle.rules.specs.Layout as Layout;
 ghost use Rattle.message.specs.Frame as Framing;
@@ -86,8 +84,7 @@ fn list_of(state: &[u8]) -> &[u8]
     octets::part(field, 0, octets::octet(state, LIST) as usize)
 }
 
-fn check_keys(state: &[u8], identifier: &[u8], profile: u16, lengths: KeyLengths) -> Check
-    requires { ⌜ length (now state) ≡ Layout.blockLength ⌝ }
+fn check_keys(state: &[u8; BLOCK], identifier: &[u8], profile: u16, lengths: KeyLengths) -> Check
     ensures { λ r. ⌜ r ≡ Out.checked (Spec.keysVerdict (now (state .entry)) (now (identifier .entry)) profile lengths) (Spec.placeOfIdentifier (now (state .entry)) (now (identifier .entry))) ⌝ }
 {
     let place = place_of_identifier(state, identifier);
@@ -108,13 +105,12 @@ fn check_keys(state: &[u8], identifier: &[u8], profile: u16, lengths: KeyLengths
 
 // MediaKeys: all key fields are replaced, or none.
 fn take_keys(
-    state: &mut [u8],
+    state: &mut [u8; BLOCK],
     s: &[u8],
     profile: u16,
     lengths: KeyLengths,
     taken: usize,
 ) -> Received
-    requires { ⌜ length (now state) ≡ Layout.blockLength ⌝ }
     ensures { λ r. ⌜ (Out.receivedOf r ≡ some (Spec.fieldsAnswer (now (state .entry)) (now (s .entry)) (Fields.MediaKeys profile lengths) taken)) × (now (state .exit) ≡ Spec.fieldsNext (now (state .entry)) (now (s .entry)) (Fields.MediaKeys profile lengths)) ⌝ }
 {
     let identifier = message::identifier(s);
@@ -129,8 +125,7 @@ fn take_keys(
 }
 
 // TunneledDtls: the octets and their endpoint.
-fn deliver(state: &[u8], s: &[u8], dtls_length: u16, taken: usize) -> Received
-    requires { ⌜ length (now state) ≡ Layout.blockLength ⌝ }
+fn deliver(state: &[u8; BLOCK], s: &[u8], dtls_length: u16, taken: usize) -> Received
     ensures { λ r. ⌜ Out.receivedOf r ≡ some (Spec.fieldsAnswer (now (state .entry)) (now (s .entry)) (Fields.TunneledDtls «dtls_length») taken) ⌝ }
 {
     let identifier = message::identifier(s);
@@ -150,8 +145,7 @@ fn deliver(state: &[u8], s: &[u8], dtls_length: u16, taken: usize) -> Received
 }
 
 // EndpointDisconnect: the record is removed.
-fn disconnect(state: &mut [u8], s: &[u8], taken: usize) -> Received
-    requires { ⌜ length (now state) ≡ Layout.blockLength ⌝ }
+fn disconnect(state: &mut [u8; BLOCK], s: &[u8], taken: usize) -> Received
     ensures { λ r. ⌜ (Out.receivedOf r ≡ some (Spec.fieldsAnswer (now (state .entry)) (now (s .entry)) Fields.EndpointDisconnect taken)) × (now (state .exit) ≡ Spec.fieldsNext (now (state .entry)) (now (s .entry)) Fields.EndpointDisconnect) ⌝ }
 {
     let identifier = message::identifier(s);
@@ -168,8 +162,7 @@ fn disconnect(state: &mut [u8], s: &[u8], taken: usize) -> Received
     }
 }
 
-fn take_fields(state: &mut [u8], s: &[u8], fields: Fields, taken: usize) -> Received
-    requires { ⌜ length (now state) ≡ Layout.blockLength ⌝ }
+fn take_fields(state: &mut [u8; BLOCK], s: &[u8], fields: Fields, taken: usize) -> Received
     ensures { λ r. ⌜ (Out.receivedOf r ≡ some (Spec.fieldsAnswer (now (state .entry)) (now (s .entry)) fields taken)) × (now (state .exit) ≡ Spec.fieldsNext (now (state .entry)) (now (s .entry)) fields) ⌝ }
 {
     match fields {
@@ -191,8 +184,7 @@ fn take_fields(state: &mut [u8], s: &[u8], fields: Fields, taken: usize) -> Rece
 }
 
 // A whole message that is no SupportedProfiles, by its body.
-fn take_body(state: &mut [u8], s: &[u8], kind: Kind, body_length: u16) -> Received
-    requires { ⌜ length (now state) ≡ Layout.blockLength ⌝ }
+fn take_body(state: &mut [u8; BLOCK], s: &[u8], kind: Kind, body_length: u16) -> Received
     ensures { λ r. ⌜ (Out.receivedOf r ≡ some (Spec.readAnswer (now (state .entry)) (now (s .entry)) (frameAnswer (now (s .entry)) (Framing.whole kind «body_length»)))) × (now (state .exit) ≡ Spec.readNext (now (state .entry)) (now (s .entry)) (frameAnswer (now (s .entry)) (Framing.whole kind «body_length»))) ⌝ }
 {
     let taken = HEADER + body_length as usize;
@@ -207,8 +199,7 @@ fn take_body(state: &mut [u8], s: &[u8], kind: Kind, body_length: u16) -> Receiv
 }
 
 // A whole message: refusal 4 comes before its body.
-fn take_whole(state: &mut [u8], s: &[u8], kind: Kind, body_length: u16) -> Received
-    requires { ⌜ length (now state) ≡ Layout.blockLength ⌝ }
+fn take_whole(state: &mut [u8; BLOCK], s: &[u8], kind: Kind, body_length: u16) -> Received
     ensures { λ r. ⌜ (Out.receivedOf r ≡ some (Spec.readAnswer (now (state .entry)) (now (s .entry)) (received (now (s .entry)) (Framing.whole kind «body_length»)))) × (now (state .exit) ≡ Spec.readNext (now (state .entry)) (now (s .entry)) (received (now (s .entry)) (Framing.whole kind «body_length»))) ⌝ }
 {
     let profiles = profiles_of(kind, body_length);
@@ -222,8 +213,7 @@ fn take_whole(state: &mut [u8], s: &[u8], kind: Kind, body_length: u16) -> Recei
 }
 
 // What the front of the octets holds, with the tunnel up: the long way.
-fn receive_long(state: &mut [u8], s: &[u8]) -> Received
-    requires { ⌜ length (now state) ≡ Layout.blockLength ⌝ }
+fn receive_long(state: &mut [u8; BLOCK], s: &[u8]) -> Received
     ensures { λ r. ⌜ (Out.receivedOf r ≡ some (Spec.readAnswer (now (state .entry)) (now (s .entry)) (receiving (now (s .entry))))) × (now (state .exit) ≡ Spec.readNext (now (state .entry)) (now (s .entry)) (receiving (now (s .entry)))) ⌝ }
 {
     match message::read_frame(s) {
@@ -248,11 +238,10 @@ fn receive_long(state: &mut [u8], s: &[u8]) -> Received
 }
 
 // A whole TunneledDtls takes the short way: it is what comes most.
-fn receive(state: &mut [u8], s: &[u8]) -> Received
-    requires { ⌜ length (now state) ≡ Layout.blockLength ⌝ }
+fn receive(state: &mut [u8; BLOCK], s: &[u8]) -> Received
     ensures { λ r. ⌜ (Out.receivedOf r ≡ some (Spec.readAnswer (now (state .entry)) (now (s .entry)) (receiving (now (s .entry))))) × (now (state .exit) ≡ Spec.readNext (now (state .entry)) (now (s .entry)) (receiving (now (s .entry)))) ⌝ }
 {
-    let dtls_length = whole_dtls(s);
+    let dtls_length = message::dtls_length(s);
     if dtls_length != 0 {
         let taken = BEFORE_DTLS + dtls_length as usize;
         return deliver(state, s, dtls_length, taken);

@@ -1,12 +1,12 @@
 // Booth packet, and what calls that write answer.
-use crate::block::BLOCK;
-use crate::block::PLACES;
-use crate::block::is_up;
-use crate::block::row_at;
 use crate::check::Check;
 use crate::check::refused;
-use crate::lookup::is_served;
-use crate::lookup::place_of_endpoint;
+use block::BLOCK;
+use block::PLACES;
+use block::is_served;
+use block::is_up;
+use block::place_of_endpoint;
+use block::row_at;
 use demux::Kind;
 use demux::Sorted;
 use message::limits::BEFORE_DTLS;
@@ -62,8 +62,7 @@ fn packet_refusal(packet: &[u8], room: usize) -> u8
 }
 
 // A packet that is refused by itself. Without an association for its endpoint the refusal is 6, which comes first.
-fn refused_packet(state: &[u8], endpoint: u32, number: u8) -> Check
-    requires { ⌜ length (now state) ≡ blockLength ⌝ }
+fn refused_packet(state: &[u8; BLOCK], endpoint: u32, number: u8) -> Check
     ensures { λ r. ⌜ r ≡ Check.Refused (cond (Spec.serves (now (state .entry)) endpoint) number 6) ⌝ }
 {
     if is_served(state, endpoint) {
@@ -72,10 +71,10 @@ fn refused_packet(state: &[u8], endpoint: u32, number: u8) -> Check
     refused(refusal::NO_ASSOCIATION)
 }
 
-// The search comes last: fewer values are kept in registers beside it.
-fn check_packet(state: &[u8], endpoint: u32, packet: &[u8], room: usize) -> Check
-    requires { ⌜ length (now state) ≡ blockLength ⌝ }
-    ensures { λ r. ⌜ r ≡ checked (Spec.packetVerdict (now (state .entry)) endpoint (now (packet .entry)) room) (Spec.placeOfEndpoint (now (state .entry)) endpoint) ⌝ }
+// The search comes last: fewer values are kept in registers beside it. The block's length is told on: by it the identifier
+// of the row has its width.
+fn check_packet(state: &[u8; BLOCK], endpoint: u32, packet: &[u8], room: usize) -> Check
+    ensures { λ r. ⌜ (length (now (state .entry)) ≡ blockLength) × (r ≡ checked (Spec.packetVerdict (now (state .entry)) endpoint (now (packet .entry)) room) (Spec.placeOfEndpoint (now (state .entry)) endpoint)) ⌝ }
 {
     if !is_up(state) {
         return refused(refusal::TUNNEL_DOWN);
@@ -96,11 +95,10 @@ fn check_packet(state: &[u8], endpoint: u32, packet: &[u8], room: usize) -> Chec
 pub fn booth_packet(state: &[u8; BLOCK], endpoint: u32, packet: &[u8], out: &mut [u8]) -> Sent
     ensures { λ r. ⌜ Sends (Spec.answer (now (state .entry)) (Call.boothPacket endpoint (now (packet .entry)) (length (now (out .entry))))) (now (out .entry)) (now (out .exit)) r ⌝ }
 {
-    let s: &[u8] = state;
-    match check_packet(s, endpoint, packet, out.len()) {
+    match check_packet(state, endpoint, packet, out.len()) {
         Check::Allowed { place } => {
-            let identifier = array16(row_at(s, place), IDENTIFIER);
-            message::write_tunneled_dtls(&identifier, packet, out);
+            let identifier = array16(row_at(state, place), IDENTIFIER);
+            writers::write_tunneled_dtls(&identifier, packet, out);
             Sent::Written {
                 count: BEFORE_DTLS + packet.len(),
             }

@@ -1,10 +1,10 @@
 // Start.
-use crate::block::BLOCK;
-use crate::block::is_up;
 use crate::check::Check;
 use crate::check::refused;
 use crate::sending::Sent;
 use crate::storing::put_up;
+use block::BLOCK;
+use block::is_up;
 use message::limits::BEFORE_LIST;
 use octets::refusal;
 ghost use mathlib.Core.Path.{_≡_};
@@ -34,7 +34,7 @@ pub fn start(state: &mut [u8; BLOCK], list: &[u8], out: &mut [u8]) -> Sent
 {
     match check_start(state, list, out.len()) {
         Check::Allowed { place: _ } => {
-            message::write_supported_profiles(0, list, out);
+            writers::write_supported_profiles(0, list, out);
             put_up(state, list);
             Sent::Written {
                 count: BEFORE_LIST + list.len(),

@@ -1,11 +1,11 @@
 // Rows of the block lent to be written, and whole blocks.
-use crate::block::BLOCK;
-use crate::block::LIST;
-use crate::block::LIST_LIMIT;
-use crate::block::TUNNEL;
-use crate::block::row_at;
-use crate::index::put_in;
-use crate::index::take_out;
+use block::BLOCK;
+use block::layout::LIST;
+use block::layout::LIST_LIMIT;
+use block::layout::TUNNEL;
+use block::put_in;
+use block::row_at;
+use block::take_out;
 use message::KeyLengths;
 use rows::key_row;
 use rows::layout::ROW;
@@ -20,8 +20,8 @@ ghost use Rattle.rules.specs.Layout as Spec;
 ghost use Rattle.rules.specs.Index as Index;
 
 // The row, and its entry in the index.
-pub(crate) fn put_open(state: &mut [u8], place: usize, identifier: &[u8], endpoint: u32)
-    requires { ⌜ (length (now state) ≡ Spec.blockLength) × (place < places) ⌝ }
+pub(crate) fn put_open(state: &mut [u8; BLOCK], place: usize, identifier: &[u8], endpoint: u32)
+    requires { ⌜ place < places ⌝ }
     ensures { λ _. ⌜ now (state .exit) ≡ Index.withEntry (Spec.withRow (now (state .entry)) place (Spec.openRow (now (identifier .entry)) endpoint)) endpoint place ⌝ }
 {
     put_open_row(state, place, identifier, endpoint);
@@ -46,8 +46,8 @@ pub(crate) fn put_keys(state: &mut [u8], place: usize, s: &[u8], profile: u16, l
     key_row(&mut state[start..end], s, profile, lengths);
 }
 
-pub(crate) fn put_vacant(state: &mut [u8], place: usize)
-    requires { ⌜ (length (now state) ≡ Spec.blockLength) × (place < places) ⌝ }
+pub(crate) fn put_vacant(state: &mut [u8; BLOCK], place: usize)
+    requires { ⌜ place < places ⌝ }
     ensures { λ _. ⌜ now (state .exit) ≡ Index.withoutEntry (Spec.withRow (now (state .entry)) place Spec.vacantRow) (Spec.endpointOf (Spec.rowOf (now (state .entry)) place)) ⌝ }
 {
     let endpoint = rows::endpoint_of(row_at(state, place));

@@ -4,7 +4,7 @@ use mathlib.Core.List.{List}
 use denote.Ref.{RefT, now}
 use Rattle.octets.specs.declared.parts.Bounds.{Bounds}
 use Rattle.octets.specs.Bounds.{between, nowhere, partIn}
-use Rattle.octets.specs.Lent.{StandsAt, PartIn}
+use Rattle.octets.specs.Lent.{BeginsAt, PartIn}
 use Rattle.ekt.specs.Splitting.{Split, refused, short, full, extension, splitting}
 
 -- the packet in front of the tag, the ciphertext and the extension's data
@@ -41,9 +41,9 @@ extensionData p = partIn p (dataBounds (splitting p))
 abbrev pub PartBy : (bounds : Split → Bounds) (packet r : RefT (List ℕ)) → Type 0
 PartBy bounds packet r = PartIn packet (bounds (splitting (now packet))) r
 
--- where they stand: the front from the packet's first octet on, ciphertext and data from the tag's
-abbrev pub Stand : (packet front ciphertext extensionData : RefT (List ℕ)) → Split → Type 0
-Stand packet front ciphertext extensionData (refused number) = Unit {0}
-Stand packet front ciphertext extensionData (short start) = StandsAt packet 0 front
-Stand packet front ciphertext extensionData (full spi epoch start end) = StandsAt packet 0 front × StandsAt packet start ciphertext
-Stand packet front ciphertext extensionData (extension messageType start end) = StandsAt packet 0 front × StandsAt packet start extensionData
+-- where they begin: the front from the packet's first octet on, ciphertext and data from the tag's
+abbrev pub PartsBegin : (packet front ciphertext extensionData : RefT (List ℕ)) → Split → Type 0
+PartsBegin packet front ciphertext extensionData (refused number) = Unit {0}
+PartsBegin packet front ciphertext extensionData (short start) = BeginsAt packet 0 front
+PartsBegin packet front ciphertext extensionData (full spi epoch start end) = BeginsAt packet 0 front × BeginsAt packet start ciphertext
+PartsBegin packet front ciphertext extensionData (extension messageType start end) = BeginsAt packet 0 front × BeginsAt packet start extensionData

@@ -17,7 +17,7 @@ use Rattle.message.specs.Parts.{meaning}
 use Rattle.message.specs.Claims.{takenWith, ReadsBack}
 use Rattle.message.specs.declared.bodies.Fields.{Fields}
 use Rattle.octets.proofs.HoldLaws.{Holds, holds-all, holds-in, holds-part}
-use Rattle.message.proofs.VerdictLaws.{encode-length}
+use Rattle.message.proofs.AnswerLaws.{encode-length}
 use Rattle.message.proofs.FrameSays.{Whole, whole-frame}
 
 module _ (m : Message) (rest : List ℕ) where

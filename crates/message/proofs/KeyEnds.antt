@@ -15,7 +15,7 @@ use Rattle.message.specs.Body.{Content, fields, refused, mediaKeys}
 use Rattle.message.specs.declared.bodies.Fields.the-variants.{MediaKeys}
 use Rattle.message.proofs.WalkLaws.{complete-good}
 use Rattle.message.proofs.WalkSays.{complete-says}
-use Rattle.message.proofs.WalkEnds.{Stands, fixed-goes, field8-goes, fixed-stands, field8-says}
+use Rattle.message.proofs.WalkEnds.{IsAt, fixed-goes, field8-goes, fixed-is-at, field8-says}
 
 module _ (body : List ℕ) where
   abbrev clientKeyAt : ℕ
@@ -85,17 +85,17 @@ module _ (body : List ℕ) where
       let w4 = field8 body 1 w3 in
       let w5 = field8 body 1 w4 in
       let w6 = field8 body 1 w5 in
-      let s2 : Stands w2 (width + 2) = fixed-stands body 2 width w1 (fixed-stands body width 0 begin (λ _. refl)) in
-      let s3 : Stands w3 clientKeyAt = λ g. field8-says body 0 (width + 2) w2 s2 g .stands ∙ omega arith in
-      let s4 : Stands w4 serverKeyAt = λ g. field8-says body 1 clientKeyAt w3 s3 g .stands in
-      let s5 : Stands w5 clientSaltAt = λ g. field8-says body 1 serverKeyAt w4 s4 g .stands in
-      let s6 : Stands w6 serverSaltAt = λ g. field8-says body 1 clientSaltAt w5 s5 g .stands in
+      let s2 : IsAt w2 (width + 2) = fixed-is-at body 2 width w1 (fixed-is-at body width 0 begin (λ _. refl)) in
+      let s3 : IsAt w3 clientKeyAt = λ g. field8-says body 0 (width + 2) w2 s2 g .offset ∙ omega arith in
+      let s4 : IsAt w4 serverKeyAt = λ g. field8-says body 1 clientKeyAt w3 s3 g .offset in
+      let s5 : IsAt w5 clientSaltAt = λ g. field8-says body 1 serverKeyAt w4 s4 g .offset in
+      let s6 : IsAt w6 serverSaltAt = λ g. field8-says body 1 clientSaltAt w5 s5 g .offset in
       let e = complete-says body (field8 body 1 w6) h in
       let f6 = field8-says body 1 serverSaltAt w6 s6 (e .0) in
       let f5 = field8-says body 1 clientSaltAt w5 s5 (f6 .before) in
       let f4 = field8-says body 1 serverKeyAt w4 s4 (f5 .before) in
       let f3 = field8-says body 1 clientKeyAt w3 s3 (f4 .before) in
-      rw (le-leb _ _ (f3 .some), le-leb _ _ (f4 .some), le-leb _ _ (f5 .some), le-leb _ _ (f6 .some), eq-eqb end (length body) (sym (f6 .stands) ∙ e .1))
+      rw (le-leb _ _ (f3 .some), le-leb _ _ (f4 .some), le-leb _ _ (f5 .some), le-leb _ _ (f6 .some), eq-eqb end (length body) (sym (f6 .offset) ∙ e .1))
 
   stops : (some && eqb end (length body)) ≡ false → mediaKeys body ≡ refused 5
   unfolding mediaKeys

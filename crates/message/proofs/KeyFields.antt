@@ -1,19 +1,16 @@
--- What it says of the five fields of MediaKeys that they fit, and the verdict on them by their lengths.
-use Prim.Native.Nat.{ℕ, _+_, _≤_}
-use mathlib.Core.Path.{_≡_, _∙_}
+-- What it says of the five fields of MediaKeys that they fit.
+use Prim.Native.Nat.{ℕ, _≤_}
+use mathlib.Core.Path.{_≡_}
 use mathlib.Core.Bool.{true}
 use mathlib.Core.List.{List}
-use native.Mathlib.Omega.{arith}
-use borrow.Author.Tests.{eqb-true}
-use lib.ListN.{length, length-append}
+use lib.ListN.{length}
 use Rattle.octets.specs.Range.{within}
 use Rattle.octets.proofs.Tests.{both}
 use Rattle.octets.proofs.RangeLaws.{within-true}
-use Rattle.message.specs.Limits.{width, most8}
-use Rattle.message.specs.Message.{encodeBody, mediaKeys}
-use Rattle.message.specs.Write.{Verdict, writing, written}
-use Rattle.message.specs.Steps.{keyFieldsFit, keysVerdict}
-use Rattle.message.proofs.VerdictLaws.{verdict-is, written-says}
+use Rattle.message.specs.Limits.{most8}
+use Rattle.message.specs.Message.{mediaKeys}
+use Rattle.message.specs.Write.{keyFieldsFit, writing, written}
+use Rattle.message.proofs.AnswerLaws.{written-says}
 
 -- each has its least and no more octets than its length octet can tell
 pub record KeyFields (m ck sk cs ss : ℕ) : Type 0 where
@@ -43,11 +40,3 @@ module _ (i : List ℕ) (p : ℕ) (m ck sk cs ss : List ℕ) (room : ℕ) where
   keys-written e =
       keys-fit (length m) (length ck) (length sk) (length cs) (length ss)
       (written-says (mediaKeys i p m ck sk cs ss) room e .1 .fields)
-
-  keys-length : length i ≡ width
-      → length (encodeBody (mediaKeys i p m ck sk cs ss)) ≡ width + 7 + length m + length ck + length sk + length cs + length ss
-  keys-length h = simp length-append (omega arith)
-
-  pub keys-verdict : {v : Verdict} → v ≡ keysVerdict (length i) (length m) (length ck) (length sk) (length cs) (length ss) room
-      → v ≡ writing (mediaKeys i p m ck sk cs ss) room
-  keys-verdict e = e ∙ verdict-is (mediaKeys i p m ck sk cs ss) room _ (λ h. keys-length (eqb-true _ _ h))

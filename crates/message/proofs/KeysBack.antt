@@ -16,7 +16,7 @@ use Rattle.message.specs.declared.bodies.Fields.the-variants.{MediaKeys}
 use Rattle.message.specs.declared.bodies.KeyLengths.{KeyLengths}
 use Rattle.octets.proofs.HoldLaws.{holds-all, holds-two, holds-number}
 use Rattle.message.proofs.WalkLaws.{fixed-good, field8-good, complete-good}
-use Rattle.message.proofs.VerdictLaws.{Fits}
+use Rattle.message.proofs.AnswerLaws.{Fits}
 use Rattle.message.proofs.KeyFields.{keys-fit}
 use Rattle.message.proofs.EncodeLaws.{lent-part, reads-back}
 

@@ -1,7 +1,6 @@
 pub mod FrameChoice
-pub mod VerdictLaws
+pub mod AnswerLaws
 pub mod KeyFields
-pub mod Pieces
 pub mod ProfileLaws
 pub mod FrameSays
 pub mod WalkSays
@@ -10,7 +9,8 @@ pub mod Reached
 pub mod ReadSays
 pub mod WriteBack
 pub mod FieldsMean
-pub mod PartsStand
+pub mod PartsBegin
+pub mod TunneledLaws
 pub mod VersionBack
 pub mod WalkLaws
 pub mod WalkEnds

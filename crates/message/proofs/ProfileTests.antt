@@ -106,7 +106,7 @@ key-read s o profile k taken e =
     let back : WritesBack s (MediaKeys profile k) taken = rw e at (reading-says s o) in
     let p = keyBounds k in
     let fit = keys-written (partIn s identifierBounds) profile (partIn s (p .mki)) (partIn s (p .«client_key»)) (partIn s (p .«server_key»))
-    (partIn s (p .«client_salt»)) (partIn s (p .«server_salt»)) taken (back .verdict taken (omega arith)) in
+    (partIn s (p .«client_salt»)) (partIn s (p .«server_salt»)) taken (back .answer taken (omega arith)) in
     omega (arith, fit .clientKey, part-most s (p .«client_key» .start) (k .«client_key»))
 
 -- ---- 9: the MKI and the salts

@@ -24,9 +24,9 @@ use Rattle.message.proofs.FrameSays.{Whole}
 use Rattle.message.proofs.WalkSays.{past-says}
 use Rattle.message.proofs.Encoded.{bodyOf, body-length}
 
--- the walk stands at the offset `to` of s; the octets from the header to there, and whether the fields among them fit
+-- the walk is at the offset `to` of s; the octets from the header to there, and whether the fields among them fit
 pub record Reached (s : List ℕ) (w : Walk) (to : ℕ) (octets : List ℕ) (fit : Bool) : Type 0 where
-  pub stands : header + w .at ≡ to
+  pub offset : header + w .at ≡ to
   pub same : octets ≡ part s header to
   pub fits : fit ≡ true
 
@@ -34,13 +34,13 @@ abbrev pub Reaches : List ℕ → Walk → (to : ℕ) (octets : List ℕ) (fit :
 Reaches s w to octets fit = w .good ≡ true → Reached s w to octets fit
 
 pub begun : (s : List ℕ) → Reaches s begin header [] true
-begun s _ = record { stands = refl; same = sym (part-none s header header (omega arith)); fits = refl }
+begun s _ = record { offset = refl; same = sym (part-none s header header (omega arith)); fits = refl }
 
 module _ {s : List ℕ} {kind : Kind} {n : ℕ} (whole : Whole s kind n) (o : Octets s) where
   abbrev body : List ℕ
   body = bodyOf s n
 
-  -- ---- what stands in the body, as a part of s
+  -- ---- what the body holds, as a part of s
 
   octet-piece : (at to : ℕ) → header + at ≡ to → to + 1 ≤ header + n → octetAt body at ∷ [] ≡ part s to (to + 1)
   octet-piece at to e h = rw (← e) (ap (λ (x : ℕ). x ∷ []) (octet-in s header n at (omega arith)) ∙ part-octet s (header + at) (omega arith))
@@ -59,10 +59,10 @@ module _ {s : List ℕ} {kind : Kind} {n : ℕ} (whole : Whole s kind n) (o : Oc
         let p = past-says (length body) good k w h in
         let q = r (p .before) in
         let l = body-length s n (whole .there) in
-        let z = piece (p .test) (q .stands) (omega (arith, p .inside)) in
+        let z = piece (p .test) (q .offset) (omega (arith, p .inside)) in
         record {
-          stands = omega (arith, p .stands, q .stands);
-          same = rw (q .same, z .0) (part-join s header to end (omega (arith, q .stands)) (omega arith));
+          offset = omega (arith, p .offset, q .offset);
+          same = rw (q .same, z .0) (part-join s header to end (omega (arith, q .offset)) (omega arith));
           fits = rw (q .fits, z .1);
         }
 

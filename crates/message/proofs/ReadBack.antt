@@ -20,7 +20,7 @@ use Rattle.message.specs.Claims.{Numbers, ReadsBack}
 use Rattle.message.specs.declared.bodies.Fields.the-variants.{SupportedProfiles, UnsupportedVersion, TunneledDtls, EndpointDisconnect}
 use Rattle.octets.proofs.HoldLaws.{holds-all, holds-two}
 use Rattle.message.proofs.WalkLaws.{fixed-good, field16-good, complete-good}
-use Rattle.message.proofs.VerdictLaws.{Fits, written-says}
+use Rattle.message.proofs.AnswerLaws.{Fits, written-says}
 use Rattle.message.proofs.EncodeLaws.{lent-part, reads-back}
 use Rattle.message.proofs.KeysBack.{keys-back}
 

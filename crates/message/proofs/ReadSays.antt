@@ -61,11 +61,11 @@ module _ (s : List ℕ) (o : Octets s) where
         by-choice BodySays (complete body w) _ _ (λ e.
         let c = complete-says body w e in
         let r = walk (c .0) in
-        let end : to ≡ header + n = sym (r .stands) ∙ ap (λ (i : ℕ). header + i) (c .1 ∙ body-length s n (whole .there)) in
+        let end : to ≡ header + n = sym (r .offset) ∙ ap (λ (i : ℕ). header + i) (c .1 ∙ body-length s n (whole .there)) in
         let same : encodeBody (meaning s f) ≡ body = r .same ∙ ap (part s header) end in
         says (record {
           octets = encoded s n (whole .there) o (whole .told) (meaning s f) type same;
-          verdict = encoded-written s n (whole .there) o (whole .told) (meaning s f) type same (identifier end) (r .fits) (whole .small);
+          answer = encoded-written s n (whole .there) o (whole .told) (meaning s f) type same (identifier end) (r .fits) (whole .small);
           result = encoded-output s n (whole .there) o (whole .told) (meaning s f) type same (identifier end) (r .fits) (whole .small);
         })) (λ _. tt)
 

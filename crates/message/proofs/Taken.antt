@@ -61,7 +61,7 @@ by-body : (P : Content → Type 0) → ((f : Fields) → P (fields f)) → P (re
 by-body P good bad Kind.SupportedProfiles l body = profiles-body P bad body (λ version n. good _)
 by-body P good bad Kind.UnsupportedVersion l body = version-body P bad body (λ version. good _)
 by-body P good bad Kind.MediaKeys l body = keys-body P bad body (λ profile k. good _)
-by-body P good bad Kind.TunneledDtls l body = dtls-body P bad body (λ n. good _)
+by-body P good bad Kind.TunneledDtls l body = dtls-body P bad body (λ n _. good _)
 by-body P good bad Kind.EndpointDisconnect l body = disconnect-body P bad body (good _)
 by-body P good bad Kind.Unlisted l body = absurd l
 

@@ -30,7 +30,7 @@ module _ (s : List ℕ) (v taken : ℕ) (o : Octets s) (e : reading s ≡ accept
       subst (WritesBack s (UnsupportedVersion v)) (sym (says .1 ∙ l))
       (record {
         octets = encoded s 1 there o told m (says .0 .type) same;
-        verdict = encoded-written s 1 there o told m (says .0 .type) same refl refl (omega arith);
+        answer = encoded-written s 1 there o told m (says .0 .type) same refl refl (omega arith);
         result = encoded-output s 1 there o told m (says .0 .type) same refl refl (omega arith);
       })
 

@@ -17,9 +17,9 @@ use Rattle.message.specs.declared.walking.Walk.{Walk}
 use Rattle.message.proofs.WalkLaws.{past-good, complete-good}
 use Rattle.message.proofs.WalkSays.{past-says, complete-says}
 
--- where a walk stands that is good
-abbrev pub Stands : Walk → ℕ → Type 0
-Stands w at = w .good ≡ true → w .at ≡ at
+-- the offset of a walk that is good
+abbrev pub IsAt : Walk → ℕ → Type 0
+IsAt w at = w .good ≡ true → w .at ≡ at
 
 module _ (body : List ℕ) where
   -- ---- past a field
@@ -40,36 +40,36 @@ module _ (body : List ℕ) where
 
   -- ---- what a good step says
 
-  pub fixed-stands : (n at : ℕ) (w : Walk) → Stands w at → Stands (fixed body n w) (at + n)
+  pub fixed-is-at : (n at : ℕ) (w : Walk) → IsAt w at → IsAt (fixed body n w) (at + n)
   unfolding fixed
-  fixed-stands n at w s g =
+  fixed-is-at n at w s g =
       let p = past-says (length body) true n w g in
-      p .stands ∙ ap (λ (i : ℕ). i + n) (s (p .before))
+      p .offset ∙ ap (λ (i : ℕ). i + n) (s (p .before))
 
   pub record Field8 (least at : ℕ) (w : Walk) : Type 0 where
     pub before : w .good ≡ true
     pub some : least ≤ octetAt body at
-    pub stands : field8 body least w .at ≡ at + 1 + octetAt body at
+    pub offset : field8 body least w .at ≡ at + 1 + octetAt body at
 
-  pub field8-says : (least at : ℕ) (w : Walk) → Stands w at → field8 body least w .good ≡ true → Field8 least at w
+  pub field8-says : (least at : ℕ) (w : Walk) → IsAt w at → field8 body least w .good ≡ true → Field8 least at w
   unfolding field8
   field8-says least at w s g =
       let p = past-says (length body) (leb least (octetAt body (w .at))) (1 + octetAt body (w .at)) w g in
       let e = s (p .before) in
-      record { before = p .before; some = leb-true _ _ (rw e at (p .test)); stands = p .stands ∙ (rw e (omega arith)) }
+      record { before = p .before; some = leb-true _ _ (rw e at (p .test)); offset = p .offset ∙ (rw e (omega arith)) }
 
-  field16-says : (at : ℕ) (w : Walk) → Stands w at → field16 body w .good ≡ true
+  field16-says : (at : ℕ) (w : Walk) → IsAt w at → field16 body w .good ≡ true
       → (1 ≤ number16At body at) × (field16 body w .at ≡ at + 2 + number16At body at)
   unfolding field16
   field16-says at w s g =
       let p = past-says (length body) (leb 1 (number16At body (w .at))) (2 + number16At body (w .at)) w g in
       let e = s (p .before) in
-      (leb-true _ _ (rw e at (p .test)), p .stands ∙ (rw e (omega arith)))
+      (leb-true _ _ (rw e at (p .test)), p .offset ∙ (rw e (omega arith)))
 
   -- ---- TunneledDtls
 
-  identified : Stands (fixed body width begin) width
-  identified = fixed-stands width 0 begin (λ _. refl)
+  identified : IsAt (fixed body width begin) width
+  identified = fixed-is-at width 0 begin (λ _. refl)
 
   pub dtls-whole : width + 2 < length body → width + 2 + number16At body width ≡ length body → tunneledDtls body ≡ fields (TunneledDtls (number16At body width))
   unfolding tunneledDtls

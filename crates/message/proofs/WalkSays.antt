@@ -15,7 +15,7 @@ pub record Past (bodyLength : ℕ) (good : Bool) (n : ℕ) (w v : Walk) : Type 0
   pub before : w .good ≡ true
   pub test : good ≡ true
   pub inside : w .at + n ≤ bodyLength
-  pub stands : v .at ≡ w .at + n
+  pub offset : v .at ≡ w .at + n
 
 pub past-says : (bodyLength : ℕ) (good : Bool) (n : ℕ) (w : Walk)
     → past bodyLength good n w .good ≡ true → Past bodyLength good n w (past bodyLength good n w)
@@ -25,7 +25,7 @@ past-says bodyLength good n w =
     (λ e _.
     let a = both (w .good && good) (leb (w .at + n) bodyLength) e in
     let b = both (w .good) good (a .0) in
-    record { before = b .0; test = b .1; inside = leb-true _ _ (a .1); stands = refl })
+    record { before = b .0; test = b .1; inside = leb-true _ _ (a .1); offset = refl })
     (λ _ h. absurd (false-true h))
 
 pub complete-says : (body : List ℕ) (w : Walk) → complete body w ≡ true → (w .good ≡ true) × (w .at ≡ length body)

@@ -39,7 +39,7 @@ pub record ReadsBack (m : Message) (rest : List ℕ) : Type 0 where
 -- fields that were read are written back to the octets taken, wherever there is room for them
 pub record WritesBack (s : List ℕ) (f : Fields) (taken : ℕ) : Type 0 where
   pub octets : encode (meaning s f) ≡ take taken s
-  pub verdict : (room : ℕ) → taken ≤ room → writing (meaning s f) room ≡ written taken
+  pub answer : (room : ℕ) → taken ≤ room → writing (meaning s f) room ≡ written taken
   pub result : (out : List ℕ) → taken ≤ length out → output (meaning s f) out ≡ take taken s ++ drop taken out
 
 -- the message whose fields are those that the parts hand back

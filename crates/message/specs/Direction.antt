@@ -8,7 +8,7 @@ use Rattle.message.specs.Read as Read
 use Rattle.message.specs.declared.framing.Kind.{Kind}
 
 -- what is so of a whole message of some kinds, by its body's length, and what of all else
-abbrev pub ofKinds : {X : Type 0} → (kinds : Kind → Bool) → Framing → (ℕ → X) → X → X
+abbrev pub ofKinds : {X : Type 0} → (kinds : Kind → Bool) → Framing → (ofWhole : (bodyLength : ℕ) → X) (other : X) → X
 ofKinds kinds moreNeeded x y = y
 ofKinds kinds (refused number taken) x y = y
 ofKinds kinds (version number) x y = y

@@ -7,7 +7,6 @@ pub mod Read
 pub mod Direction
 pub mod Parts
 pub mod Write
-pub mod Steps
 pub mod Profiles
 pub mod Claims
 pub mod Taken

@@ -4,8 +4,9 @@ use mathlib.Core.List.{List}
 use mathlib.Core.Path.{_≡_}
 use lib.ListN.{length}
 use denote.Ref.{RefT, now}
+use Rattle.octets.specs.Number.{number16At}
 use Rattle.octets.specs.Bounds.{between, behind, nowhere, partIn}
-use Rattle.octets.specs.Lent.{StandsAt, PartIn}
+use Rattle.octets.specs.Lent.{BeginsAt, PartIn}
 use Rattle.octets.specs.declared.parts.Bounds.{Bounds}
 use Rattle.message.specs.Limits.{width, header}
 use Rattle.message.specs.Message as Message
@@ -77,6 +78,16 @@ boundsFor p Field.ServerKey = p .keys .«server_key»
 boundsFor p Field.ClientSalt = p .keys .«client_salt»
 boundsFor p Field.ServerSalt = p .keys .«server_salt»
 
+-- how many DTLS octets the message has that an answer tells; 0 where it has none
+abbrev pub dtlsIn : Answer → ℕ
+dtlsIn moreNeeded = 0
+dtlsIn (refused number taken) = 0
+dtlsIn (accepted (SupportedProfiles version n) taken) = 0
+dtlsIn (accepted (UnsupportedVersion version) taken) = 0
+dtlsIn (accepted (MediaKeys profile k) taken) = 0
+dtlsIn (accepted (TunneledDtls n) taken) = n
+dtlsIn (accepted EndpointDisconnect taken) = 0
+
 -- a field of the message at the front of s, as a part of s
 unfoldable pub field : List ℕ → Field → List ℕ
 field s f = partIn s (boundsFor (boundsOf (reading s)) f)
@@ -87,19 +98,27 @@ field s f = partIn s (boundsFor (boundsOf (reading s)) f)
 abbrev pub FieldOf : (s : RefT (List ℕ)) → Field → (r : RefT (List ℕ)) → Type 0
 FieldOf s f r = PartIn s (boundsFor (boundsOf (reading (now s))) f) r
 
--- the DTLS octets of a TunneledDtls stand after octet A + 5, and are as many as it says
-abbrev pub DtlsStands : (s dtls : RefT (List ℕ)) → Fields → Type 0
-DtlsStands s dtls (SupportedProfiles version n) = Unit {0}
-DtlsStands s dtls (UnsupportedVersion version) = Unit {0}
-DtlsStands s dtls (MediaKeys profile k) = Unit {0}
-DtlsStands s dtls (TunneledDtls n) = StandsAt s (header + width + 2) dtls × (length (now dtls) ≡ n)
-DtlsStands s dtls EndpointDisconnect = Unit {0}
+-- the body is as long as the message says; of type 2 it is the one octet that is read
+abbrev pub BodyLength : (s body : RefT (List ℕ)) → Fields → Type 0
+BodyLength s body (SupportedProfiles version n) = length (now body) ≡ number16At (now s) 1
+BodyLength s body (UnsupportedVersion version) = length (now body) ≡ 1
+BodyLength s body (MediaKeys profile k) = length (now body) ≡ number16At (now s) 1
+BodyLength s body (TunneledDtls n) = length (now body) ≡ number16At (now s) 1
+BodyLength s body EndpointDisconnect = length (now body) ≡ number16At (now s) 1
 
--- the body of any message that is read stands after octet 3
-abbrev pub Stand : (s body dtls : RefT (List ℕ)) → Answer → Type 0
-Stand s body dtls moreNeeded = Unit {0}
-Stand s body dtls (refused number taken) = Unit {0}
-Stand s body dtls (accepted f taken) = StandsAt s header body × DtlsStands s dtls f
+-- the DTLS octets of a TunneledDtls begin at octet A + 5, and are as many as it says
+abbrev pub DtlsBegins : (s dtls : RefT (List ℕ)) → Fields → Type 0
+DtlsBegins s dtls (SupportedProfiles version n) = Unit {0}
+DtlsBegins s dtls (UnsupportedVersion version) = Unit {0}
+DtlsBegins s dtls (MediaKeys profile k) = Unit {0}
+DtlsBegins s dtls (TunneledDtls n) = BeginsAt s 21 dtls × (length (now dtls) ≡ n)
+DtlsBegins s dtls EndpointDisconnect = Unit {0}
+
+-- the body of any message that is read begins after octet 3
+abbrev pub PartsBegin : (s body dtls : RefT (List ℕ)) → Answer → Type 0
+PartsBegin s body dtls moreNeeded = Unit {0}
+PartsBegin s body dtls (refused number taken) = Unit {0}
+PartsBegin s body dtls (accepted f taken) = BeginsAt s 3 body × BodyLength s body f × DtlsBegins s dtls f
 
 -- ---- what an answer means on its octets
 

@@ -26,7 +26,7 @@ KeysOf profile k =
 pub record ProfileTests : Type 0 where
   -- 7: a profile is in a list exactly when it is an entry; a lone last octet is none
   pub inList : (profile : ℕ) (list : List ℕ) → (Profiles.inList profile list ≡ true) ↔ EntryOf list profile
-  -- 8: of keys that have an octet at all, and so of any that were read
+  -- 8: of a client key that has an octet, and so of any that was read
   pub keysFit : (profile : ℕ) (k : KeyLengths) → 1 ≤ k .«client_key» → (Profiles.keysFit profile k ≡ true) ↔ KeysOf profile k
   pub keysRead : (s : List ℕ) → Octets s → (profile : ℕ) (k : KeyLengths) (taken : ℕ) → reading s ≡ accepted (MediaKeys profile k) taken
       → (Profiles.keysFit profile k ≡ true) ↔ KeysOf profile k

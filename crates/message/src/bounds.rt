@@ -156,7 +156,7 @@ fn field_bounds(fields: Fields, taken: usize) -> FieldBounds
             profile: _,
             lengths,
         } => p.keys = key_bounds(lengths),
-        Fields::TunneledDtls { dtls_length } => p.dtls = behind(BEFORE_DTLS, dtls_length),
+        Fields::TunneledDtls { dtls_length } => p.dtls = dtls_bounds(dtls_length),
         Fields::EndpointDisconnect => {}
     }
     p

@@ -1,16 +1,15 @@
-// The tunnel messages between a media distributor and a key distributor (RFC 9185, section 6),
-// read and written, and the rules on profiles and key lengths that tables of associations share.
+// The tunnel messages between a media distributor and a key distributor (RFC 9185, section 6): what they
+// are, read and written, and their reading; and the rules on profiles and key lengths that tables of associations share.
 mod bodies;
 mod bounds;
 mod example;
 mod framing;
 pub mod limits;
 mod profiles;
-mod putting;
 mod reading;
+mod tunneled;
 pub mod types;
 mod walking;
-mod writing;
 
 pub use bodies::Body;
 pub use bodies::Fields;
@@ -42,9 +41,4 @@ pub use profiles::keys_fit;
 pub use profiles::mki_and_salts_fit;
 pub use reading::Read;
 pub use reading::read_message;
-pub use writing::Write;
-pub use writing::write_endpoint_disconnect;
-pub use writing::write_media_keys;
-pub use writing::write_supported_profiles;
-pub use writing::write_tunneled_dtls;
-pub use writing::write_unsupported_version;
+pub use tunneled::dtls_length;

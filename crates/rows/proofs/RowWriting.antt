@@ -5,11 +5,10 @@ use mathlib.Core.List.{List, _++_, append-assoc, append-nil}
 use native.Mathlib.Omega.{arith}
 use lib.ListN.{length, take, drop, length-append, take-append-drop, drop-of-length-le, length-take, length-drop}
 use lib.Seq.{drop-drop}
-use Rattle.octets.specs.Number.{octets16}
+use Rattle.octets.specs.Number.{octets16, octetsOf16, octetsOf32}
 use Rattle.octets.specs.Part.{part}
 use Rattle.octets.specs.Write.{put}
 use Rattle.octets.proofs.WriteLaws.{Wrote, end-whole, wrote-more}
-use Rattle.rules.specs.Layout.{octetsOf16, octetsOf32}
 
 -- the same octets, with the offset said otherwise
 pub wrote-at : {l p x : List ℕ} {at : ℕ} → Wrote l p x at → (to : ℕ) → to ≡ length p → Wrote l p x to

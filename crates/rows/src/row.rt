@@ -12,7 +12,7 @@ pub fn is_live(row: &[u8]) -> bool
     octets::octet(row, STATE) != 0
 }
 
-pub fn identifier_of(row: &[u8]) -> &[u8]
+fn identifier_of(row: &[u8]) -> &[u8]
     ensures { λ r. ⌜ now r ≡ Spec.identifierOf (now (row .entry)) ⌝ }
 {
     octets::part(row, IDENTIFIER, IDENTIFIER + WIDTH)

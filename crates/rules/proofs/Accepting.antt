@@ -1,9 +1,10 @@
--- The orders of refusals, each over its single tests, and the conjunctions of the same tests that the cards go by.
+-- The conjunctions of single tests that the cards go by are what the orders of refusals allow.
 use Prim.Native.Nat.{ℕ}
 use mathlib.Core.Path.{_≡_, refl}
 use mathlib.Core.Bool.{Bool, true, false, not, _&&_}
 use Rattle.octets.proofs.Tests.{false-true}
 use Rattle.rules.specs.Verdict.{Verdict, allowed, refusal, refuse, after}
+use Rattle.rules.specs.Orders.{startOrder, openOrder, closeOrder, keysOrder}
 
 abbrev pub accepts : Verdict → Bool
 accepts allowed = true
@@ -19,21 +20,7 @@ pub passes : (b : Bool) (n : ℕ) (w : Verdict) → accepts (refuse b n w) ≡ t
 passes true n w h = absurd (false-true h)
 passes false n w h = (refl, h)
 
--- ---- the orders
-
-abbrev pub startOrder : (up bad noRoom : Bool) → Verdict
-startOrder up bad noRoom = refuse up 17 (refuse bad 16 (refuse noRoom 13 allowed))
-
-abbrev pub openOrder : (down wrong known busy full : Bool) → Verdict
-openOrder down wrong known busy full = refuse down 1 (refuse wrong 20 (refuse known 11 (refuse busy 12 (refuse full 10 allowed))))
-
-abbrev pub closeOrder : (down wrong unknown noRoom : Bool) → Verdict
-closeOrder down wrong unknown noRoom = refuse down 1 (refuse wrong 20 (refuse unknown 6 (refuse noRoom 13 allowed)))
-
-abbrev pub keysOrder : (unknown unlisted unfit tooLong : Bool) → Verdict
-keysOrder unknown unlisted unfit tooLong = refuse unknown 6 (refuse unlisted 7 (refuse unfit 8 (refuse tooLong 9 allowed)))
-
--- ---- the conjunctions
+-- ---- the conjunctions, and the orders over the same tests
 
 pub start-accepts : (up good noRoom : Bool) → (not up && good && not noRoom) ≡ accepts (startOrder up (not good) noRoom)
 start-accepts true good noRoom = refl

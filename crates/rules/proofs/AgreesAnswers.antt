@@ -26,8 +26,8 @@ use Rattle.rules.specs.CardAnswers as CardAnswers
 use Rattle.rules.specs.CardAnswers.{tunnelOn, identifierWith, associationOn, byCard, messageExpected, readExpected, expected}
 use Rattle.rules.specs.Claim.{exceptPlace}
 use Rattle.rules.specs.ViewSteps.{isServing, associationAt, firstWith, endpointFor, has, isDown, startVerdict, openVerdict, packetVerdict, closeVerdict, lookVerdict, keysVerdict, fieldsAnswer, readAnswer, viewAnswer}
+use Rattle.rules.specs.Orders.{startOrder, openOrder, closeOrder, keysOrder}
 use Rattle.rules.proofs.KeepLaws.{first-found, first-none, first-kept, first-is}
-use Rattle.rules.proofs.Accepting.{startOrder, openOrder, closeOrder, keysOrder}
 use Rattle.rules.proofs.ProfilesLaws.{expected-reads}
 use Rattle.rules.proofs.Agrees.{Agrees, placesOn}
 use Rattle.rules.proofs.AgreesSays.{known-is, serving-card, busy-is}

@@ -22,8 +22,8 @@ use Rattle.rules.specs.Cards.{Held, blank, opened, keyed, Cards, filled}
 use Rattle.rules.specs.CardAnswers.{tunnelOn, byCard, messageExpected, readExpected, expected}
 use Rattle.rules.specs.Claim.{exceptPlace, nothing, handedBy, handedOn, handedFor, handedRead, expectedHandout}
 use Rattle.rules.specs.ViewSteps.{viewAnswer}
+use Rattle.rules.specs.Orders.{keysOrder}
 use Rattle.rules.proofs.Choices.{no-both}
-use Rattle.rules.proofs.Accepting.{keysOrder}
 use Rattle.rules.proofs.ProfilesLaws.{handed-reads, expected-reads}
 use Rattle.rules.proofs.Agrees.{Agrees}
 use Rattle.rules.proofs.AgreesVerdicts.{up-is}

@@ -11,7 +11,7 @@ use Rattle.rules.specs.Refusals.{wrongWidth, noRoom}
 use Rattle.rules.specs.View.{View}
 use Rattle.rules.specs.Cards.{Cards, filled, endpointLive, allLive}
 use Rattle.rules.specs.ViewSteps.{isDown, openVerdict, closeVerdict, keysVerdict}
-use Rattle.rules.proofs.Accepting.{openOrder, closeOrder, keysOrder}
+use Rattle.rules.specs.Orders.{openOrder, closeOrder, keysOrder}
 use Rattle.rules.proofs.Agrees.{Agrees}
 use Rattle.rules.proofs.AgreesSays.{known-is, busy-is, full-is}
 

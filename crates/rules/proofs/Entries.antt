@@ -69,6 +69,6 @@ module _ {A : Type 0} (live : A → Bool) (endpointOf : A → ℕ) where
   serving endpoint r = live r && eqb (endpointOf r) endpoint
 
   -- no two live rows have the same endpoint
-  abbrev pub Apart : List A → Type 0
-  Apart [] = Unit {0}
-  Apart (r ∷ l) = (live r ≡ true → someOf (serving (endpointOf r)) l ≡ false) × Apart l
+  abbrev pub EndpointsDiffer : List A → Type 0
+  EndpointsDiffer [] = Unit {0}
+  EndpointsDiffer (r ∷ l) = (live r ≡ true → someOf (serving (endpointOf r)) l ≡ false) × EndpointsDiffer l

@@ -6,11 +6,11 @@ use native.Mathlib.Nat.{div-add-mod', div-div-eq-div-mul}
 use native.Mathlib.Omega.{arith}
 use lib.ListN.{length, take, replicate, length-take, length-append, length-replicate}
 use lib.Seq.{take-append-seam, take-at, take-take}
-use Rattle.octets.specs.Word.{quadAt}
-use Rattle.octets.specs.Number.{number16At, number32At}
+use Rattle.octets.specs.Word.{quadAt, lowFirst32}
+use Rattle.octets.specs.Number.{number16At, number32At, octetsOf16, octetsOf32}
 use Rattle.octets.specs.Part.{part}
 use Rattle.octets.proofs.HoldLaws.{Holds, holds-two, holds-part, holds-octet}
-use Rattle.rules.specs.Layout.{padded, field, fieldOf, octetsOf16, octetsOf32, lowFirst32}
+use Rattle.rules.specs.Layout.{padded, field, fieldOf}
 
 -- ---- padded fields
 

@@ -7,12 +7,12 @@ use native.Mathlib.Nat.{le-of-suc-le-suc, not-suc-le-zero}
 use borrow.Author.Tests.{lt-ltb, le-ltb}
 use lib.ListN.{length, getD, take, replicate, length-append, length-replicate}
 use lib.Seq.{take-at}
-use Rattle.octets.specs.Number.{octetAt, number16At}
+use Rattle.octets.specs.Number.{octetAt, number16At, octetsOf16}
 use Rattle.octets.specs.Write.{over}
 use Rattle.octets.proofs.HoldLaws.{Holds, holds-all, holds-two, holds-octet}
 use Rattle.rules.specs.Order.{Entry, entry}
 use Rattle.rules.specs.Limits.{places}
-use Rattle.rules.specs.Layout.{indexAt, indexPlacesAt, indexEndpointsAt, blockLength, octetsOf16, padded}
+use Rattle.rules.specs.Layout.{indexAt, indexPlacesAt, indexEndpointsAt, blockLength, padded}
 use Rattle.rules.specs.Index.{countOf, indexEndpoint, indexPlace, column, endpointOctets, placeOctets, indexOctets, entered, withdrawn, insertedAt, removedAt}
 use Rattle.rules.proofs.Entries.{endpoints, placesIn, insertAt, removeAt}
 use Rattle.rules.proofs.Cases.{by-size}

@@ -14,12 +14,12 @@ use Rattle.rules.specs.Order.{Entry, entry, insert, orderFrom, order}
 use Rattle.rules.specs.Limits.{places, rounds}
 use Rattle.rules.specs.Index.{countOf, indexEndpoint, spot, placeAtSpot, entering, leaving, withEntry, withoutEntry}
 use Rattle.rules.specs.Table.{placeOfEndpoint}
-use Rattle.rules.proofs.Entries.{whereIs, endpoints, inserting, removing, placeOf, placeWith, serving, Apart}
+use Rattle.rules.proofs.Entries.{whereIs, endpoints, inserting, removing, placeOf, placeWith, serving, EndpointsDiffer}
 use Rattle.rules.proofs.Cases.{by-test}
 use Rattle.rules.proofs.RoundsEnough.{enough}
 use Rattle.rules.proofs.HalvingLaws.{Tells, Rising, where-tells, halving-finds}
 use Rattle.rules.proofs.EntryLaws.{length-insert, length-endpoints, inserting-there, removing-there, place-there}
-use Rattle.rules.proofs.OrderLaws.{order-has, order-rising, order-place, order-same, order-open, order-close, apart-same, apart-open, apart-close}
+use Rattle.rules.proofs.OrderLaws.{order-has, order-rising, order-place, order-same, order-open, order-close, differ-same, differ-open, differ-close}
 use Rattle.rules.proofs.IndexLaws.{Indexed, reads, inserted-indexed, removed-indexed}
 
 -- ---- an index of rising endpoints
@@ -66,7 +66,7 @@ module _ {A : Type 0} (live : A → Bool) (endpointOf : A → ℕ) where
 
   pub record Legal (front s : List ℕ) (l : List A) : Type 0 where
     pub index : Indexed front s (from 0 l)
-    pub apart : Apart live endpointOf l
+    pub differ : EndpointsDiffer live endpointOf l
     pub size : length l ≡ places
 
   -- the place of an endpoint
@@ -75,7 +75,7 @@ module _ {A : Type 0} (live : A → Bool) (endpointOf : A → ℕ) where
   place-found-in f s l g k h e =
       let z : 0 + length l ≡ places = omega (arith, g .size) in
       let y : 0 + first (serving live endpointOf e) l ≡ first (serving live endpointOf e) l = omega arith in
-      place-in f s (from 0 l) (g .index) (order-rising live endpointOf 0 l (g .apart)) k h e
+      place-in f s (from 0 l) (g .index) (order-rising live endpointOf 0 l (g .differ)) k h e
       ∙ ap (λ (n : ℕ). placeWith e n (from 0 l)) (sym z)
       ∙ order-place live endpointOf e 0 l ∙ y
 
@@ -115,7 +115,7 @@ module _ {A : Type 0} (live : A → Bool) (endpointOf : A → ℕ) where
     longer x = length-set l i x ∙ g .size
 
     rising : Rising (endpoints m)
-    rising = order-rising live endpointOf 0 l (g .apart)
+    rising = order-rising live endpointOf 0 l (g .differ)
 
     -- Open: a row at a vacant place, with an endpoint that no live row has
     pub legal-open : live (getD l i d) ≡ false → live r ≡ true → someOf (serving live endpointOf (endpointOf r)) l ≡ false
@@ -133,7 +133,7 @@ module _ {A : Type 0} (live : A → Bool) (endpointOf : A → ℕ) where
               rw (spot-is f s m (g .index) rising e)
               (subst (λ (y : List Entry). Indexed f (entering s e i (whereIs e (endpoints m))) y) q
               (entering-is f s m (g .index) rising e i n (whereIs e (endpoints m)) (tells f s m (g .index) rising e)));
-          apart = apart-open live endpointOf d r u l i n0 (g .apart);
+          differ = differ-open live endpointOf d r u l i n0 (g .differ);
           size = longer r;
         }
 
@@ -143,13 +143,13 @@ module _ {A : Type 0} (live : A → Bool) (endpointOf : A → ℕ) where
     legal-close v u =
         let e = endpointOf (getD l i d) in
         let q : removing (whereIs e (endpoints m)) m ≡ from 0 (set l i r) =
-        removing-there e m rising ∙ sym (order-close live endpointOf d r u 0 l i within v (g .apart)) in
+        removing-there e m rising ∙ sym (order-close live endpointOf d r u 0 l i within v (g .differ)) in
         record {
           index =
               rw (spot-is f s m (g .index) rising e)
               (subst (λ (y : List Entry). Indexed f (leaving s (whereIs e (endpoints m))) y) q
               (leaving-is f s m (g .index) rising e (whereIs e (endpoints m)) (tells f s m (g .index) rising e)));
-          apart = apart-close live endpointOf d r u l i (g .apart);
+          differ = differ-close live endpointOf d r u l i (g .differ);
           size = longer r;
         }
 
@@ -157,6 +157,6 @@ module _ {A : Type 0} (live : A → Bool) (endpointOf : A → ℕ) where
     pub legal-rekey : live r ≡ live (getD l i d) → endpointOf r ≡ endpointOf (getD l i d) → Legal f s (set l i r)
     legal-rekey u e = record {
       index = subst (Indexed f s) (sym (order-same live endpointOf d r 0 l i (u, e))) (g .index);
-      apart = apart-same live endpointOf d r l i (u, e) (g .apart);
+      differ = differ-same live endpointOf d r l i (u, e) (g .differ);
       size = longer r;
     }

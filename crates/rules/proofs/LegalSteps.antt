@@ -16,7 +16,7 @@ use Rattle.rules.specs.Answer.{Association}
 use Rattle.rules.specs.Table.{associationOf}
 use Rattle.rules.specs.View as Tunnel
 use Rattle.rules.specs.View.{AtPlace, inRow, view, endpointIn}
-use Rattle.rules.proofs.Entries.{Apart}
+use Rattle.rules.proofs.Entries.{EndpointsDiffer}
 use Rattle.rules.proofs.Cases.{by-test}
 use Rattle.rules.proofs.RowsLaws.{Sized, rows-length, rows-with, rows-front, over-front}
 use Rattle.rules.proofs.TunnelLaws.{tunnel-front}
@@ -50,9 +50,9 @@ unfolding orderFrom
 vacant-order j zero = refl
 vacant-order j (suc k) = rw vacant-live (vacant-order (suc j) k)
 
-vacant-apart : (k : ℕ) → Apart live endpointOf (replicate k vacantRow)
-vacant-apart zero = tt
-vacant-apart (suc k) = ((λ h. absurd (true≢false (sym h ∙ vacant-live))), vacant-apart k)
+vacant-differ : (k : ℕ) → EndpointsDiffer live endpointOf (replicate k vacantRow)
+vacant-differ zero = tt
+vacant-differ (suc k) = ((λ h. absurd (true≢false (sym h ∙ vacant-live))), vacant-differ k)
 
 pub empty-legal : (front s : List ℕ) → Sized s → length front ≡ indexAt → s ≡ front ++ replicate (blockLength - indexAt) 0 → rows s ≡ replicate places vacantRow → Legal s
 empty-legal front s z f e r =
@@ -62,7 +62,7 @@ empty-legal front s z f e r =
       front = front;
       table = record {
         index = record { size = f; index = rw (o, index-empty) e; few = rw o (omega arith) };
-        apart = rw r (vacant-apart places);
+        differ = rw r (vacant-differ places);
         size = rows-length s;
       };
     }
@@ -87,7 +87,7 @@ module _ (s : List ℕ) (g : Legal s) (at : ℕ) (h : at < places) (r : List ℕ
           index = ap (λ (x : List ℕ). over x (at * rowLength) r) (i .index) ∙ over-front (g .front) (indexOctets (orderFrom live endpointOf 0 (rows s))) r (at * rowLength) room;
           few = i .few;
         };
-        apart = g .table .apart;
+        differ = g .table .differ;
         size = g .table .size;
       }
 

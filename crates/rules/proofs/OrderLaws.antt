@@ -12,7 +12,7 @@ use lib.Seq.{getD-set-same}
 use Rattle.octets.proofs.Tests.{both}
 use Rattle.rules.specs.Search.{first, someOf}
 use Rattle.rules.specs.Order.{Entry, entry, insert, orderFrom, order}
-use Rattle.rules.proofs.Entries.{endpoints, remove, placeWith, serving, Apart}
+use Rattle.rules.proofs.Entries.{endpoints, remove, placeWith, serving, EndpointsDiffer}
 use Rattle.rules.proofs.Cases.{by-test, either-false}
 use Rattle.rules.proofs.HalvingLaws.{Rising}
 use Rattle.rules.proofs.EntryLaws.{has, insert-insert, has-insert, place-insert, rising-insert, remove-insert}
@@ -43,7 +43,7 @@ module _ {A : Type 0} (live : A → Bool) (endpointOf : A → ℕ) where
       (λ e. rw (live-row j r l e, e) (has-insert (entry (endpointOf r) j) endpoint (from (suc j) l) ∙ ap (λ (b : Bool). eqb (endpointOf r) endpoint || b) (order-has endpoint (suc j) l)))
       (λ e. rw (vacant-row j r l e, e) (order-has endpoint (suc j) l))
 
-  pub order-rising : (j : ℕ) (l : List A) → Apart live endpointOf l → Rising (endpoints (from j l))
+  pub order-rising : (j : ℕ) (l : List A) → EndpointsDiffer live endpointOf l → Rising (endpoints (from j l))
   unfolding orderFrom
   order-rising j [] a = tt
   order-rising j (r ∷ l) a = by-test (live r)
@@ -85,10 +85,10 @@ module _ {A : Type 0} (live : A → Bool) (endpointOf : A → ℕ) where
     some-same endpoint (x ∷ l) zero e = rw (e .0, e .1) refl
     some-same endpoint (x ∷ l) (suc i) e = rw (some-same endpoint l i e) refl
 
-    pub apart-same : (l : List A) (i : ℕ) → Same l i → Apart live endpointOf l → Apart live endpointOf (set l i r)
-    apart-same [] i e a = tt
-    apart-same (x ∷ l) zero e a = ((λ h. rw (e .1) (a .0 (sym (e .0) ∙ h))), a .1)
-    apart-same (x ∷ l) (suc i) e a = ((λ h. some-same (endpointOf x) l i e ∙ a .0 h), apart-same l i e (a .1))
+    pub differ-same : (l : List A) (i : ℕ) → Same l i → EndpointsDiffer live endpointOf l → EndpointsDiffer live endpointOf (set l i r)
+    differ-same [] i e a = tt
+    differ-same (x ∷ l) zero e a = ((λ h. rw (e .1) (a .0 (sym (e .0) ∙ h))), a .1)
+    differ-same (x ∷ l) (suc i) e a = ((λ h. some-same (endpointOf x) l i e ∙ a .0 h), differ-same l i e (a .1))
 
   -- ---- a row at a vacant place, with an endpoint that no live row has
 
@@ -119,15 +119,15 @@ module _ {A : Type 0} (live : A → Bool) (endpointOf : A → ℕ) where
         let g = either-false (serves endpoint x) (someOf (serves endpoint) l) f in
         rw (g .0) (some-open endpoint l i n (g .1))
 
-    pub apart-open : (l : List A) (i : ℕ) → someOf (serves (endpointOf r)) l ≡ false → Apart live endpointOf l → Apart live endpointOf (set l i r)
+    pub differ-open : (l : List A) (i : ℕ) → someOf (serves (endpointOf r)) l ≡ false → EndpointsDiffer live endpointOf l → EndpointsDiffer live endpointOf (set l i r)
     unfolding someOf
-    apart-open [] i f a = tt
-    apart-open (x ∷ l) zero f a = ((λ h. either-false (serves (endpointOf r) x) (someOf (serves (endpointOf r)) l) f .1), a .1)
-    apart-open (x ∷ l) (suc i) f a =
+    differ-open [] i f a = tt
+    differ-open (x ∷ l) zero f a = ((λ h. either-false (serves (endpointOf r) x) (someOf (serves (endpointOf r)) l) f .1), a .1)
+    differ-open (x ∷ l) (suc i) f a =
         let g = either-false (serves (endpointOf r) x) (someOf (serves (endpointOf r)) l) f in (
           (λ h.
               some-open (endpointOf x) l i (λ p. eqb-false (endpointOf x) (endpointOf r) (rw h at (g .0)) (sym p)) (a .0 h)),
-          apart-open l i (g .1) (a .1),
+          differ-open l i (g .1) (a .1),
         )
 
   -- ---- a vacant row at the place of a live one
@@ -141,10 +141,10 @@ module _ {A : Type 0} (live : A → Bool) (endpointOf : A → ℕ) where
         let g = either-false (serves endpoint x) (someOf (serves endpoint) l) f in
         rw (g .0) (some-close endpoint l i (g .1))
 
-    pub apart-close : (l : List A) (i : ℕ) → Apart live endpointOf l → Apart live endpointOf (set l i v)
-    apart-close [] i a = tt
-    apart-close (x ∷ l) zero a = ((λ h. absurd (true≢false (sym h ∙ down))), a .1)
-    apart-close (x ∷ l) (suc i) a = ((λ h. some-close (endpointOf x) l i (a .0 h)), apart-close l i (a .1))
+    pub differ-close : (l : List A) (i : ℕ) → EndpointsDiffer live endpointOf l → EndpointsDiffer live endpointOf (set l i v)
+    differ-close [] i a = tt
+    differ-close (x ∷ l) zero a = ((λ h. absurd (true≢false (sym h ∙ down))), a .1)
+    differ-close (x ∷ l) (suc i) a = ((λ h. some-close (endpointOf x) l i (a .0 h)), differ-close l i (a .1))
 
     -- where row i serves the endpoint, some row does
     some-at : (endpoint : ℕ) (l : List A) (i : ℕ) → i < length l → serves endpoint (getD l i d) ≡ true → someOf (serves endpoint) l ≡ false → ⊥
@@ -154,7 +154,7 @@ module _ {A : Type 0} (live : A → Bool) (endpointOf : A → ℕ) where
     some-at endpoint (x ∷ l) (suc i) h s f = some-at endpoint l i (le-of-suc-le-suc h) s (either-false (serves endpoint x) (someOf (serves endpoint) l) f .1)
 
     -- no other row has its endpoint
-    pub none-left : (l : List A) (i : ℕ) → i < length l → live (getD l i d) ≡ true → Apart live endpointOf l
+    pub none-left : (l : List A) (i : ℕ) → i < length l → live (getD l i d) ≡ true → EndpointsDiffer live endpointOf l
         → someOf (serves (endpointOf (getD l i d))) (set l i v) ≡ false
     unfolding someOf
     none-left [] i h e a = refl
@@ -173,7 +173,7 @@ module _ {A : Type 0} (live : A → Bool) (endpointOf : A → ℕ) where
     set-back (x ∷ l) zero h = refl
     set-back (x ∷ l) (suc i) h = ap (λ (m : List A). x ∷ m) (set-back l i (le-of-suc-le-suc h))
 
-    pub order-close : (j : ℕ) (l : List A) (i : ℕ) → i < length l → live (getD l i d) ≡ true → Apart live endpointOf l
+    pub order-close : (j : ℕ) (l : List A) (i : ℕ) → i < length l → live (getD l i d) ≡ true → EndpointsDiffer live endpointOf l
         → from j (set l i v) ≡ remove (endpointOf (getD l i d)) (from j l)
     order-close j l i h e a =
         let r = getD l i d in

@@ -6,14 +6,14 @@ use mathlib.Core.Option.{some, none}
 use native.Mathlib.Omega.{arith}
 use lib.ListN.{length, take, replicate, length-append, length-replicate}
 use lib.Seq.{length-take-le}
-use Rattle.octets.specs.Number.{octetAt, number16At, number32At}
+use Rattle.octets.specs.Number.{octetAt, number16At, number32At, octetsOf16, octetsOf32}
 use Rattle.octets.specs.Part.{part}
 use Rattle.octets.proofs.PartLaws.{part-front}
 use Rattle.octets.proofs.HoldLaws.{holds-all, holds-two, holds-part, holds-octet}
 use Rattle.message.specs.Limits.{width, mkiLimit, saltLimit}
 use Rattle.rules.specs.Limits.{keyLimit}
 use Rattle.rules.specs.Keys.{Keys}
-use Rattle.rules.specs.Layout.{stateAt, identifierAt, endpointAt, profileAt, mkiAt, clientKeyAt, serverKeyAt, clientSaltAt, serverSaltAt, rowLength, live, identifierOf, endpointOf, keysOf, field, padded, octetsOf16, octetsOf32, vacantRow, openRow, keyedRow}
+use Rattle.rules.specs.Layout.{stateAt, identifierAt, endpointAt, profileAt, mkiAt, clientKeyAt, serverKeyAt, clientSaltAt, serverSaltAt, rowLength, live, identifierOf, endpointOf, keysOf, field, padded, vacantRow, openRow, keyedRow}
 use Rattle.rules.specs.Answer.{opened, keyed}
 use Rattle.rules.specs.Table.{associationOf}
 use Rattle.rules.specs.View.{inRow}

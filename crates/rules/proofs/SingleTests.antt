@@ -1,22 +1,22 @@
 -- The single tests of Refusals say what they mean.
 use Prim.Native.Nat.{ℕ, _+_, _-_, _≤_, _<_}
-use mathlib.Core.Path.{_≡_, refl, sym, ap, _∙_}
+use mathlib.Core.Path.{_≡_, refl, sym, ap, subst, _∙_}
 use mathlib.Core.Logic.{_↔_, _⊎_, inl, inr, ⊎-elim}
 use mathlib.Core.Bool.{true, false, not}
-use mathlib.Core.List.{List, [], _∷_}
+use mathlib.Core.List.{List, [], _∷_, _++_}
 use native.Mathlib.Omega.{arith}
 use lib.ListN.{length, length-append}
 use lib.Dec.{ltb}
 use borrow.Author.Tests.{lt-ltb, eq-eqb, ne-eqb, ltb-true, eqb-false, not-true}
-use Rattle.octets.specs.Number.{octetAt}
+use Rattle.octets.specs.Number.{octetAt, octets16}
 use Rattle.octets.specs.Range.{within}
 use Rattle.octets.proofs.Tests.{by-choice, false-true}
 use Rattle.octets.proofs.RangeLaws.{inside, below, above}
 use Rattle.demux.specs.Sorting as Sorting
 use Rattle.demux.specs.declared.sorting.Kind.{Kind}
 use Rattle.message.specs.Limits.{bodyLimit}
-use Rattle.message.specs.Message.{Message, tunneledDtls, encodeBody, encode}
-use Rattle.message.specs.Write.{Verdict, writing, refused, fitting}
+use Rattle.message.specs.Message.{Message, tunneledDtls, endpointDisconnect, encodeBody, encode}
+use Rattle.message.specs.Write.{Answer, writing, refused, fitting}
 use Rattle.rules.specs.Limits.{packetLimit}
 use Rattle.rules.specs.Refusals as Refusals
 use Rattle.rules.specs.Refusals.{isDtlsKind}
@@ -77,7 +77,7 @@ module _ (i packet : List ℕ) (room : ℕ) (w : length i ≡ 16) (some : 1 ≤ 
   fits = rw (eq-eqb _ _ w, inside 1 65535 _ some told)
 
   -- refusal 2, and no other, is for a body over the limit
-  abbrev Over : Verdict → Type 0
+  abbrev Over : Answer → Type 0
   Over v = v ≡ refused 2 → bodyLimit < length (encodeBody m)
 
   over : Over (fitting (length (encodeBody m)) (length (encode m)) room)
@@ -95,6 +95,39 @@ module _ (i packet : List ℕ) (room : ℕ) (w : length i ≡ 16) (some : 1 ≤ 
     λ e. lt-ltb packetLimit (length packet) (omega (arith, body-length, over (sym fits ∙ e))),
   )
 
+-- ---- 13
+
+room-means : (new : Message) (room : ℕ) {size : ℕ} → length (encode new) ≡ size → (Refusals.noRoom new room ≡ true) ↔ (room < size)
+room-means new room e =
+    (λ h. subst (λ (n : ℕ). room < n) e (ltb-true room (length (encode new)) h), λ h. lt-ltb room (length (encode new)) (subst (λ (n : ℕ). room < n) (sym e) h))
+
+start-room : (list : List ℕ) (room : ℕ) → (Refusals.noRoom (Refusals.startMessage list) room ≡ true) ↔ (room < 6 + length list)
+unfolding encode
+start-room list room = room-means (Refusals.startMessage list) room (omega arith)
+
+packet-room : (i packet : List ℕ) (room : ℕ) → length i ≡ 16 → (Refusals.noRoom (tunneledDtls i packet) room ≡ true) ↔ (room < 21 + length packet)
+unfolding encode
+packet-room i packet room w = room-means (tunneledDtls i packet) room (simp length-append (omega arith))
+
+close-room : (i : List ℕ) (room : ℕ) → length i ≡ 16 → (Refusals.noRoom (endpointDisconnect i) room ≡ true) ↔ (room < 19)
+unfolding encode
+close-room i room w = room-means (endpointDisconnect i) room (simp length-append (omega arith))
+
+-- ---- what is written
+
+starts : (list : List ℕ) → encode (Refusals.startMessage list) ≡ (1 ∷ octets16 (3 + length list)) ++ (0 ∷ octets16 (length list)) ++ list
+unfolding encode
+starts list = ap (λ (n : ℕ). (1 ∷ octets16 n) ++ encodeBody (Refusals.startMessage list)) (omega arith)
+
+sends : (i packet : List ℕ) → length i ≡ 16
+    → encode (tunneledDtls i packet) ≡ (4 ∷ octets16 (18 + length packet)) ++ (i ++ (octets16 (length packet) ++ packet))
+unfolding encode
+sends i packet w = ap (λ (n : ℕ). (4 ∷ octets16 n) ++ encodeBody (tunneledDtls i packet)) (simp length-append (omega arith))
+
+closes : (i : List ℕ) → length i ≡ 16 → encode (endpointDisconnect i) ≡ 5 ∷ 0 ∷ 16 ∷ i
+unfolding encode
+closes i w = ap (λ (n : ℕ). (5 ∷ octets16 n) ++ i) w
+
 pub single-tests : SingleTests
 single-tests = record {
   wrongWidth = width-means;
@@ -102,4 +135,11 @@ single-tests = record {
   tooLong = too-long-means;
   unwritable = unwritable-means;
   goodList = good-list-means;
+  startRoom = start-room;
+  packetRoom = packet-room;
+  closeRoom = close-room;
+  started = starts;
+  sent = sends;
+  closed = closes;
+  places = refl;
 }

@@ -8,7 +8,6 @@ use native.Mathlib.Omega.{arith}
 use lib.ListN.{length}
 use borrow.Author.Tests.{lt-ltb, le-ltb, ne-eqb}
 use Rattle.octets.specs.Bounds.{partIn}
-use Rattle.octets.specs.declared.parts.Bounds.{Bounds}
 use Rattle.octets.specs.Number.{octetAt, number16At}
 use Rattle.octets.specs.Part.{part}
 use Rattle.octets.proofs.Tests.{by-choice}
@@ -25,6 +24,7 @@ use Rattle.message.specs.declared.framing.Kind.{Kind}
 use Rattle.message.specs.declared.bodies.KeyLengths.{KeyLengths}
 use Rattle.message.specs.declared.bodies.Fields.the-variants.{UnsupportedVersion, MediaKeys, TunneledDtls, EndpointDisconnect}
 use Rattle.message.proofs.BodyCases.{keys-body, dtls-body, disconnect-body}
+use Rattle.message.proofs.Encoded.{body-length}
 use Rattle.message.proofs.FrameChoice.{by-neither}
 use Rattle.message.proofs.FrameSays.{frame-says, whole-type, FrameSays}
 use Rattle.message.proofs.Taken.{whole-framed, reads-by-steps}
@@ -60,7 +60,7 @@ record Answering (make : Read.Answer → Answer) : Type 0 where
   refusing : (number taken : ℕ) → make (Read.refused number taken) ≡ refused number taken
   reporting : (v taken : ℕ) → make (Read.accepted (UnsupportedVersion v) taken) ≡ version v taken
   keys : (profile : ℕ) (k : KeyLengths) (taken : ℕ) → KeysAnswer taken (make (Read.accepted (MediaKeys profile k) taken))
-  dtls : (n taken : ℕ) → DtlsAnswer taken (make (Read.accepted (TunneledDtls n) taken))
+  dtls : (n taken : ℕ) → 21 + n ≡ taken → DtlsAnswer taken (make (Read.accepted (TunneledDtls n) taken))
   disconnect : (taken : ℕ) → DisconnectAnswer taken (make (Read.accepted EndpointDisconnect taken))
 
 module _ (octets : List ℕ) {make : Read.Answer → Answer} (a : Answering make) where
@@ -100,9 +100,9 @@ module _ (octets : List ℕ) {make : Read.Answer → Answer} (a : Answering make
     unfolding kindOf
     keys-message e good bad = subst (λ r. P (make r)) (sym (received-kind w Kind.MediaKeys (ap kindOf e))) (keys-body OfBody bad body good)
 
-    dtls-message : type ≡ 4 → ((m : ℕ) → P (make (Read.accepted (TunneledDtls m) (3 + n)))) → P (make (Read.refused 5 (3 + n))) → P (make (receiving octets))
+    dtls-message : type ≡ 4 → ((m : ℕ) → 21 + m ≡ 3 + n → P (make (Read.accepted (TunneledDtls m) (3 + n)))) → P (make (Read.refused 5 (3 + n))) → P (make (receiving octets))
     unfolding kindOf
-    dtls-message e good bad = subst (λ r. P (make r)) (sym (received-kind w Kind.TunneledDtls (ap kindOf e))) (dtls-body OfBody bad body good)
+    dtls-message e good bad = subst (λ r. P (make r)) (sym (received-kind w Kind.TunneledDtls (ap kindOf e))) (dtls-body OfBody bad body (λ m d. good m (omega (arith, d .ends, body-length octets n (w .there)))))
 
     disconnect-message : type ≡ 5 → P (make (Read.accepted EndpointDisconnect (3 + n))) → P (make (Read.refused 5 (3 + n))) → P (make (receiving octets))
     unfolding kindOf
@@ -138,7 +138,7 @@ module _ (octets : List ℕ) {make : Read.Answer → Answer} (a : Answering make
         profiles = λ w e. ap make (profiles-received w e) ∙ a .refusing 4 (3 + n);
         unlisted = λ w u. ap make (of-unlisted u ∙ steps .unlisted w u) ∙ a .refusing 3 (3 + n);
         keys = λ w e. keys-message (KeysAnswer (3 + n)) w e (λ profile k. a .keys profile k (3 + n)) (inr (bad-body (omega arith)));
-        dtls = λ w e. dtls-message (DtlsAnswer (3 + n)) w e (λ m. a .dtls m (3 + n)) (inr (bad-body (omega arith)));
+        dtls = λ w e. dtls-message (DtlsAnswer (3 + n)) w e (λ m e. a .dtls m (3 + n) e) (inr (bad-body (omega arith)));
         disconnect = λ w e. disconnect-message (DisconnectAnswer (3 + n)) w e (a .disconnect (3 + n)) (inr (bad-body (omega arith)));
       }
 
@@ -155,8 +155,8 @@ keys-refused false false false false endpoint taken = inl (record { endpoint = e
 unknown : (taken : ℕ) → RefusedWith 5 6 taken (refused 6 taken)
 unknown taken = record { number = 6; from = omega arith; to = omega arith; told = refl }
 
-delivered : (endpoint : ℕ) (dtls : Bounds) (taken : ℕ) → DtlsAnswer taken (delivery endpoint dtls taken)
-delivered endpoint dtls taken = inl (record { endpoint = endpoint; dtls = dtls; told = refl })
+delivered : (endpoint n taken : ℕ) → 21 + n ≡ taken → DtlsAnswer taken (delivery endpoint (dtlsBounds n) taken)
+delivered endpoint n taken e = inl (record { endpoint = endpoint; dtls = dtlsBounds n; start = refl; end = e; told = refl })
 
 gone : (endpoint taken : ℕ) → DisconnectAnswer taken (removed endpoint taken)
 gone endpoint taken = inl (record { endpoint = endpoint; told = refl })
@@ -170,7 +170,7 @@ table-answering s octets =
       refusing = λ number taken. refl;
       reporting = λ v taken. refl;
       keys = λ profile k taken. keys-refused (not (knows s identifier)) (not (inList profile (listOf s))) (not (keysFit profile k)) (not (mkiAndSaltsFit k)) (endpointFor s identifier) taken;
-      dtls = λ m taken. by-choice (DtlsAnswer taken) (knows s identifier) _ _ (λ _. delivered _ _ taken) (λ _. inr (unknown taken));
+      dtls = λ m taken e. by-choice (DtlsAnswer taken) (knows s identifier) _ _ (λ _. delivered _ m taken e) (λ _. inr (unknown taken));
       disconnect = λ taken. by-choice (DisconnectAnswer taken) (knows s identifier) _ _ (λ _. gone _ taken) (λ _. inr (unknown taken));
     }
 
@@ -195,7 +195,7 @@ cards-answering cards octets =
       keys = λ profile k taken. by-held (KeysAnswer taken) held taken _ (λ endpoint.
           keys-refused false (not (inList profile (listIn (tunnelOn cards)))) (not (keysFit profile k)) (not (mkiAndSaltsFit k)) endpoint taken)
           (inr (record { number = 6; from = omega arith; to = omega arith; told = refl }));
-      dtls = λ m taken. by-held (DtlsAnswer taken) held taken _ (λ endpoint. delivered endpoint (dtlsBounds m) taken) (inr (unknown taken));
+      dtls = λ m taken e. by-held (DtlsAnswer taken) held taken _ (λ endpoint. delivered endpoint m taken e) (inr (unknown taken));
       disconnect = λ taken. by-held (DisconnectAnswer taken) held taken _ (λ endpoint. gone endpoint taken) (inr (unknown taken));
     }
 

@@ -19,7 +19,7 @@ pub data Answer : Type 0 where
   placed : (place : ℕ) → Answer
   ended : Answer
   found : Association → Answer
-  -- by the endpoint of the association that the message names
+  -- by the endpoint of the association that the message names; of a removal, the one that it had
   keysStored : (endpoint taken : ℕ) → Answer
   -- where the DTLS octets stand in the lent octets
   delivery : (endpoint : ℕ) (dtls : Bounds) (taken : ℕ) → Answer
@@ -28,7 +28,7 @@ pub data Answer : Type 0 where
 
 -- what is so of a refusal, of "more needed", of a place and of a delivery, and what of any other answer, by the octets taken, 0 where there are none
 abbrev pub byAnswer {ℓ} : {X : Type ℓ}
-    → (ofRefused : (number taken : ℕ) → X) (ofMoreNeeded : X) (ofPlaced : (place : ℕ) → X) (ofDelivery : (endpoint : ℕ) (dtls : Bounds) (taken : ℕ) → X) (ofOther : (taken : ℕ) → X)
+    → (ofRefused : (number taken : ℕ) → X) (ofMoreNeeded : X) (ofPlaced : (place : ℕ) → X) (ofDelivered : (endpoint : ℕ) (dtls : Bounds) (taken : ℕ) → X) (ofOther : (taken : ℕ) → X)
     → Answer → X
 byAnswer r m p d o (refused number taken) = r number taken
 byAnswer r m p d o moreNeeded = m

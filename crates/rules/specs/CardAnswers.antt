@@ -80,7 +80,7 @@ lookExpected cards endpoint =
     (found (associationOn (identifierWith cards endpoint) (cards .card (identifierWith cards endpoint) .held)))
 
 -- the answer to a message that names an identifier goes by the endpoint on its card; 6 where that is blank
-abbrev pub byCard : Held → (taken : ℕ) → (ℕ → Answer) → Answer
+abbrev pub byCard : (held : Held) (taken : ℕ) (answer : (endpoint : ℕ) → Answer) → Answer
 byCard blank taken a = refused 6 taken
 byCard (opened endpoint) taken a = a endpoint
 byCard (keyed endpoint k) taken a = a endpoint

@@ -4,12 +4,12 @@ use mathlib.Core.Bool.{cond}
 use mathlib.Core.List.{List, [], _∷_, _++_}
 use lib.Dec.{ltb}
 use lib.ListN.{length}
-use Rattle.octets.specs.Number.{octetAt, number16At}
-use Rattle.octets.specs.Word.{quadAt}
+use Rattle.octets.specs.Number.{octetAt, number16At, octetsOf16}
+use Rattle.octets.specs.Word.{quadAt, lowFirst32}
 use Rattle.octets.specs.Part.{part}
 use Rattle.octets.specs.Write.{over}
 use Rattle.rules.specs.Limits.{places, rounds}
-use Rattle.rules.specs.Layout.{indexAt, indexPlacesAt, indexEndpointsAt, octetsOf16, lowFirst32, padded}
+use Rattle.rules.specs.Layout.{indexAt, indexPlacesAt, indexEndpointsAt, padded}
 use Rattle.rules.specs.Halving.{Spot, here, missing, halving}
 use Rattle.rules.specs.Order.{Entry}
 

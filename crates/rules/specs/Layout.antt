@@ -1,10 +1,10 @@
 -- The block of octets that holds tunnel and table: where things stand, how they are read, and what a row is made of. No document lays it out.
-use Prim.Native.Nat.{ℕ, zero, suc, _+_, _*_, _/_, _%_, _-_}
+use Prim.Native.Nat.{ℕ, zero, suc, _+_, _*_, _-_}
 use mathlib.Core.Bool.{Bool, not, _&&_}
 use mathlib.Core.List.{List, [], _∷_, _++_}
 use lib.Dec.{eqb}
 use lib.ListN.{length, take, drop, replicate, getD}
-use Rattle.octets.specs.Number.{octetAt, number16At, number32At}
+use Rattle.octets.specs.Number.{octetAt, number16At, number32At, octetsOf16, octetsOf32}
 use Rattle.octets.specs.Part.{part, same}
 use Rattle.octets.specs.Write.{over}
 use Rattle.message.specs.Limits.{width, mkiLimit, saltLimit}
@@ -105,10 +105,10 @@ keysOf r = record {
   serverSalt = fieldOf r serverSaltAt saltLimit;
 }
 
-unfoldable pub named : List ℕ → List ℕ → Bool
+unfoldable pub named : (identifier row : List ℕ) → Bool
 named identifier r = live r && same (identifierOf r) identifier
 
-unfoldable pub serving : ℕ → List ℕ → Bool
+unfoldable pub serving : (endpoint : ℕ) (row : List ℕ) → Bool
 serving endpoint r = live r && eqb (endpointOf r) endpoint
 
 unfoldable pub vacant : List ℕ → Bool
@@ -123,17 +123,6 @@ padded n x = take n (x ++ replicate n 0)
 -- a length octet and a padded field
 abbrev pub field : (limit : ℕ) → List ℕ → List ℕ
 field limit x = length x ∷ padded limit x
-
--- a number in octets; its first is not cut to an octet, so that every number reads back, and of a u16 or u32 it is one
-abbrev pub octetsOf16 : ℕ → List ℕ
-octetsOf16 n = n / 256 ∷ n % 256 ∷ []
-
-abbrev pub octetsOf32 : ℕ → List ℕ
-octetsOf32 n = n / 16777216 ∷ n / 65536 % 256 ∷ n / 256 % 256 ∷ n % 256 ∷ []
-
--- the same with the lowest octet first and the last not cut
-abbrev pub lowFirst32 : ℕ → List ℕ
-lowFirst32 n = n % 256 ∷ n / 256 % 256 ∷ n / 65536 % 256 ∷ n / 16777216 ∷ []
 
 unfoldable pub vacantRow : List ℕ
 vacantRow = replicate rowLength 0

@@ -2,7 +2,7 @@
 use Prim.Native.Nat.{ℕ, _+_, _-_}
 use Rattle.message.specs.Limits.{width, bodyLimit}
 
--- live associations at most: the mission
+-- live associations at most: the request
 abbrev pub places : ℕ
 places = 32
 

@@ -1,4 +1,4 @@
--- The order of each call's refusals, over its tests: document 01, "The record and its calls". The earliest whose test holds is given.
+-- The order of each call's refusals where it has several, over its tests: document 01, "The record and its calls". The earliest whose test holds is given. The 1 of End and of Tunnel octets and the 6 of types 4 and 5 stand in Table.
 use mathlib.Core.Bool.{Bool}
 use Rattle.rules.specs.Verdict.{Verdict, allowed, refuse}
 
@@ -17,9 +17,9 @@ packetOrder down unserved notDtls tooLong noRoom =
     refuse down 1 (refuse unserved 6 (refuse notDtls 14 (refuse tooLong 15 (refuse noRoom 13 allowed))))
 
 -- Tunnel octets, type 3: 6, 7, 8, 9
-abbrev pub keysOrder : (unknown notInList keysUnfit othersUnfit : Bool) → Verdict
-keysOrder unknown notInList keysUnfit othersUnfit =
-    refuse unknown 6 (refuse notInList 7 (refuse keysUnfit 8 (refuse othersUnfit 9 allowed)))
+abbrev pub keysOrder : (unknown notInList keysUnfit mkiOrSaltsUnfit : Bool) → Verdict
+keysOrder unknown notInList keysUnfit mkiOrSaltsUnfit =
+    refuse unknown 6 (refuse notInList 7 (refuse keysUnfit 8 (refuse mkiOrSaltsUnfit 9 allowed)))
 
 -- Close: 1, 20, 6, 13
 abbrev pub closeOrder : (down wrongWidth unknown noRoom : Bool) → Verdict

@@ -25,12 +25,12 @@ pub record Placed (before after : List AtPlace) (place : ℕ) (identifier : List
   pub others : (other : ℕ) → other ≢ place → atPlace after other ≡ atPlace before other
 
 -- of a call on a block: where it is an opening and is answered with a place
-abbrev pub Opening : List ℕ → Call → Type 0
+abbrev pub Opening : (block : List ℕ) (call : Call) → Type 0
 Opening s c =
     (identifier : List ℕ) (endpoint place : ℕ) → c ≡ opening identifier endpoint → answer s c ≡ placed place
     → Placed (view s .table) (view (step s c) .table) place identifier endpoint
 
 -- of each call in a list, on the block that the calls before it led to
-abbrev pub Openings : List ℕ → List Call → Type 0
+abbrev pub Openings : (block : List ℕ) (calls : List Call) → Type 0
 Openings s [] = Unit {0}
 Openings s (c ∷ cs) = Opening s c × Openings (step s c) cs

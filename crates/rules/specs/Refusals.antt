@@ -53,7 +53,7 @@ isProfiles MessageKind.Kind.TunneledDtls = false
 isProfiles MessageKind.Kind.EndpointDisconnect = false
 isProfiles MessageKind.Kind.Unlisted = false
 
--- the reading of octets from the key distributor
+-- the reading of octets from the key distributor, with refusal 4 before the body
 abbrev pub received : List ℕ → Frame.Framing → Read.Answer
 received s f = directed isProfiles s f
 

@@ -25,103 +25,103 @@ use Rattle.octets.specs.Number.{octetAt}
 
 -- ---- searching; a place that is not there is the number of places
 
-unfoldable pub placeOfIdentifier : List ℕ → List ℕ → ℕ
+unfoldable pub placeOfIdentifier : (block identifier : List ℕ) → ℕ
 placeOfIdentifier s identifier = first (named identifier) (rows s)
 
-unfoldable pub placeOfEndpoint : List ℕ → ℕ → ℕ
+unfoldable pub placeOfEndpoint : (block : List ℕ) (endpoint : ℕ) → ℕ
 placeOfEndpoint s endpoint = placeAtSpot s (spot s endpoint)
 
-unfoldable pub vacantPlace : List ℕ → ℕ
+unfoldable pub vacantPlace : (block : List ℕ) → ℕ
 vacantPlace s = first vacant (rows s)
 
-abbrev pub knows : List ℕ → List ℕ → Bool
+abbrev pub knows : (block identifier : List ℕ) → Bool
 knows s identifier = ltb (placeOfIdentifier s identifier) places
 
-abbrev pub serves : List ℕ → ℕ → Bool
+abbrev pub serves : (block : List ℕ) (endpoint : ℕ) → Bool
 serves s endpoint = ltb (placeOfEndpoint s endpoint) places
 
-abbrev pub hasRoom : List ℕ → Bool
+abbrev pub hasRoom : (block : List ℕ) → Bool
 hasRoom s = ltb (vacantPlace s) places
 
 -- ---- Start: 17, 16, 13
 
-unfoldable pub startVerdict : List ℕ → List ℕ → (room : ℕ) → Verdict
+unfoldable pub startVerdict : (block list : List ℕ) (room : ℕ) → Verdict
 startVerdict s list room = startOrder (up s) (not (goodList list)) (noRoom (startMessage list) room)
 
-unfoldable pub startAnswer : List ℕ → List ℕ → (room : ℕ) → Answer
+unfoldable pub startAnswer : (block list : List ℕ) (room : ℕ) → Answer
 startAnswer s list room = answered (startVerdict s list room) 0 (wrote (encode (startMessage list)))
 
-unfoldable pub startNext : List ℕ → List ℕ → (room : ℕ) → List ℕ
+unfoldable pub startNext : (block list : List ℕ) (room : ℕ) → List ℕ
 startNext s list room = after (startVerdict s list room) (upBlock list) s
 
 -- ---- Open: 1, 20, 11, 12, 10
 
-unfoldable pub openVerdict : List ℕ → List ℕ → ℕ → Verdict
+unfoldable pub openVerdict : (block identifier : List ℕ) (endpoint : ℕ) → Verdict
 openVerdict s identifier endpoint =
     openOrder (not (up s)) (wrongWidth identifier) (knows s identifier) (serves s endpoint) (not (hasRoom s))
 
-unfoldable pub openAnswer : List ℕ → List ℕ → ℕ → Answer
+unfoldable pub openAnswer : (block identifier : List ℕ) (endpoint : ℕ) → Answer
 openAnswer s identifier endpoint = answered (openVerdict s identifier endpoint) 0 (placed (vacantPlace s))
 
-unfoldable pub openNext : List ℕ → List ℕ → ℕ → List ℕ
+unfoldable pub openNext : (block identifier : List ℕ) (endpoint : ℕ) → List ℕ
 openNext s identifier endpoint = after (openVerdict s identifier endpoint) (withEntry (withRow s (vacantPlace s) (openRow identifier endpoint)) endpoint (vacantPlace s)) s
 
 -- ---- Booth packet: 1, 6, 14, 15, 13
 
-unfoldable pub packetMessage : List ℕ → ℕ → List ℕ → Message
+unfoldable pub packetMessage : (block : List ℕ) (endpoint : ℕ) (packet : List ℕ) → Message
 packetMessage s endpoint packet = tunneledDtls (identifierOf (rowOf s (placeOfEndpoint s endpoint))) packet
 
-unfoldable pub packetVerdict : List ℕ → ℕ → List ℕ → (room : ℕ) → Verdict
+unfoldable pub packetVerdict : (block : List ℕ) (endpoint : ℕ) (packet : List ℕ) (room : ℕ) → Verdict
 packetVerdict s endpoint packet room =
     packetOrder (not (up s)) (not (serves s endpoint)) (notDtls packet) (tooLong packet) (noRoom (packetMessage s endpoint packet) room)
 
-unfoldable pub packetAnswer : List ℕ → ℕ → List ℕ → (room : ℕ) → Answer
+unfoldable pub packetAnswer : (block : List ℕ) (endpoint : ℕ) (packet : List ℕ) (room : ℕ) → Answer
 packetAnswer s endpoint packet room = answered (packetVerdict s endpoint packet room) 0 (wrote (encode (packetMessage s endpoint packet)))
 
 -- ---- Close: 1, 20, 6, 13
 
-unfoldable pub closeVerdict : List ℕ → List ℕ → (room : ℕ) → Verdict
+unfoldable pub closeVerdict : (block identifier : List ℕ) (room : ℕ) → Verdict
 closeVerdict s identifier room =
     closeOrder (not (up s)) (wrongWidth identifier) (not (knows s identifier)) (noRoom (endpointDisconnect identifier) room)
 
-unfoldable pub closeAnswer : List ℕ → List ℕ → (room : ℕ) → Answer
+unfoldable pub closeAnswer : (block identifier : List ℕ) (room : ℕ) → Answer
 closeAnswer s identifier room = answered (closeVerdict s identifier room) 0 (wrote (encode (endpointDisconnect identifier)))
 
 -- the block without the association of an identifier
-abbrev pub without : List ℕ → List ℕ → List ℕ
+abbrev pub without : (block identifier : List ℕ) → List ℕ
 without s identifier = withoutEntry (withRow s (placeOfIdentifier s identifier) vacantRow) (endpointOf (rowOf s (placeOfIdentifier s identifier)))
 
-unfoldable pub closeNext : List ℕ → List ℕ → (room : ℕ) → List ℕ
+unfoldable pub closeNext : (block identifier : List ℕ) (room : ℕ) → List ℕ
 closeNext s identifier room = after (closeVerdict s identifier room) (without s identifier) s
 
 -- ---- End: 1
 
-unfoldable pub endAnswer : List ℕ → Answer
+unfoldable pub endAnswer : (block : List ℕ) → Answer
 endAnswer s = cond (up s) ended (refused 1 0)
 
-unfoldable pub endNext : List ℕ → List ℕ
+unfoldable pub endNext : (block : List ℕ) → List ℕ
 endNext s = cond (up s) downBlock s
 
 -- ---- Look: 1, 6
 
 -- the association that a live row holds
-unfoldable pub associationOf : List ℕ → Association
+unfoldable pub associationOf : (row : List ℕ) → Association
 associationOf r = cond (eqb (octetAt r stateAt) 1) (opened (identifierOf r) (endpointOf r)) (keyed (identifierOf r) (endpointOf r) (keysOf r))
 
-unfoldable pub lookVerdict : List ℕ → ℕ → Verdict
+unfoldable pub lookVerdict : (block : List ℕ) (endpoint : ℕ) → Verdict
 lookVerdict s endpoint = lookOrder (not (up s)) (not (serves s endpoint))
 
-unfoldable pub lookAnswer : List ℕ → ℕ → Answer
+unfoldable pub lookAnswer : (block : List ℕ) (endpoint : ℕ) → Answer
 lookAnswer s endpoint = answered (lookVerdict s endpoint) 0 (found (associationOf (rowOf s (placeOfEndpoint s endpoint))))
 
 -- ---- Tunnel octets: 1, then the reading; type 3: 6, 7, 8, 9; types 4 and 5: 6
 
-unfoldable pub keysVerdict : List ℕ → List ℕ → (profile : ℕ) → KeyLengths → Verdict
+unfoldable pub keysVerdict : (block identifier : List ℕ) (profile : ℕ) → KeyLengths → Verdict
 keysVerdict s identifier profile k =
     keysOrder (not (knows s identifier)) (not (inList profile (listOf s))) (not (keysFit profile k)) (not (mkiAndSaltsFit k))
 
 -- the block with the key fields of an identifier's association replaced by those of the octets read
-abbrev pub rekeyed : List ℕ → List ℕ → List ℕ → (profile : ℕ) → KeyLengths → List ℕ
+abbrev pub rekeyed : (block identifier octets : List ℕ) (profile : ℕ) → KeyLengths → List ℕ
 rekeyed s identifier octets profile k =
     withRow s (placeOfIdentifier s identifier) (keyedRow (keysIn octets profile k) (rowOf s (placeOfIdentifier s identifier)))
 
@@ -130,7 +130,7 @@ abbrev pub endpointFor : (block identifier : List ℕ) → ℕ
 endpointFor s identifier = endpointOf (rowOf s (placeOfIdentifier s identifier))
 
 -- a SupportedProfiles does not come this far: refusal 4 is given before its body is read
-unfoldable pub fieldsAnswer : List ℕ → List ℕ → Fields → (taken : ℕ) → Answer
+unfoldable pub fieldsAnswer : (block octets : List ℕ) → Fields → (taken : ℕ) → Answer
 fieldsAnswer s octets (SupportedProfiles v n) taken = refused 4 taken
 fieldsAnswer s octets (UnsupportedVersion v) taken = version v taken
 fieldsAnswer s octets (MediaKeys profile k) taken =
@@ -140,7 +140,7 @@ fieldsAnswer s octets (TunneledDtls n) taken =
 fieldsAnswer s octets EndpointDisconnect taken =
     cond (knows s (partIn octets identifierBounds)) (removed (endpointFor s (partIn octets identifierBounds)) taken) (refused 6 taken)
 
-unfoldable pub fieldsNext : List ℕ → List ℕ → Fields → List ℕ
+unfoldable pub fieldsNext : (block octets : List ℕ) → Fields → List ℕ
 fieldsNext s octets (SupportedProfiles v n) = s
 fieldsNext s octets (UnsupportedVersion v) = downBlock
 fieldsNext s octets (MediaKeys profile k) =
@@ -148,26 +148,26 @@ fieldsNext s octets (MediaKeys profile k) =
 fieldsNext s octets (TunneledDtls n) = s
 fieldsNext s octets EndpointDisconnect = cond (knows s (partIn octets identifierBounds)) (without s (partIn octets identifierBounds)) s
 
-abbrev pub readAnswer : List ℕ → List ℕ → Read.Answer → Answer
+abbrev pub readAnswer : (block octets : List ℕ) → Read.Answer → Answer
 readAnswer s octets Read.moreNeeded = moreNeeded
 readAnswer s octets (Read.refused number taken) = refused number taken
 readAnswer s octets (Read.accepted f taken) = fieldsAnswer s octets f taken
 
 -- refusal 2 ends the tunnel: no boundary can be found again
-abbrev pub readNext : List ℕ → List ℕ → Read.Answer → List ℕ
+abbrev pub readNext : (block octets : List ℕ) → Read.Answer → List ℕ
 readNext s octets Read.moreNeeded = s
 readNext s octets (Read.refused number taken) = cond (eqb number 2) downBlock s
 readNext s octets (Read.accepted f taken) = fieldsNext s octets f
 
-unfoldable pub octetsAnswer : List ℕ → List ℕ → Answer
+unfoldable pub octetsAnswer : (block octets : List ℕ) → Answer
 octetsAnswer s octets = cond (up s) (readAnswer s octets (receiving octets)) (refused 1 0)
 
-unfoldable pub octetsNext : List ℕ → List ℕ → List ℕ
+unfoldable pub octetsNext : (block octets : List ℕ) → List ℕ
 octetsNext s octets = cond (up s) (readNext s octets (receiving octets)) s
 
 -- ---- a list of calls, each on the block that the one before it left
 
-unfoldable pub answer : List ℕ → Call.Call → Answer
+unfoldable pub answer : (block : List ℕ) → Call.Call → Answer
 answer s (Call.start list room) = startAnswer s list room
 answer s (Call.opening identifier endpoint) = openAnswer s identifier endpoint
 answer s (Call.boothPacket endpoint packet room) = packetAnswer s endpoint packet room
@@ -176,7 +176,7 @@ answer s (Call.close identifier room) = closeAnswer s identifier room
 answer s Call.end = endAnswer s
 answer s (Call.look endpoint) = lookAnswer s endpoint
 
-unfoldable pub step : List ℕ → Call.Call → List ℕ
+unfoldable pub step : (block : List ℕ) → Call.Call → List ℕ
 step s (Call.start list room) = startNext s list room
 step s (Call.opening identifier endpoint) = openNext s identifier endpoint
 step s (Call.boothPacket endpoint packet room) = s
@@ -185,10 +185,10 @@ step s (Call.close identifier room) = closeNext s identifier room
 step s Call.end = endNext s
 step s (Call.look endpoint) = s
 
-unfoldable pub run : List ℕ → List Call.Call → List ℕ
+unfoldable pub run : (block : List ℕ) (calls : List Call.Call) → List ℕ
 run s [] = s
 run s (c ∷ cs) = run (step s c) cs
 
-unfoldable pub answers : List ℕ → List Call.Call → List Answer
+unfoldable pub answers : (block : List ℕ) (calls : List Call.Call) → List Answer
 answers s [] = []
 answers s (c ∷ cs) = answer s c ∷ answers (step s c) cs

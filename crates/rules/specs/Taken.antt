@@ -22,10 +22,12 @@ pub record ForEndpoint (of : ℕ → Answer) (answer : Answer) : Type 0 where
   pub endpoint : ℕ
   pub told : answer ≡ of endpoint
 
--- a delivery, so many octets taken
+-- a delivery, so many octets taken: of those from octet A + 5 to the end of the message
 pub record Delivered (taken : ℕ) (answer : Answer) : Type 0 where
   pub endpoint : ℕ
   pub dtls : Bounds
+  pub start : dtls .start ≡ 21
+  pub end : dtls .end ≡ taken
   pub told : answer ≡ delivery endpoint dtls taken
 
 -- to a whole message of type 3, 4 and 5; 5 is the reading's, 6 to 9 are the table's

@@ -9,10 +9,10 @@ use Rattle.rules.specs.Answer.{refused, moreNeeded}
 use Rattle.rules.specs.Layout.{downBlock}
 use Rattle.rules.specs.Table.{answer, step}
 
--- a refusal changes nothing, but refusal 2, which ends the tunnel and empties the table: the mission, demand 1; document 01, "Refusal numbers"
-abbrev pub RefusedKeeps : List ℕ → Call → Type 0
+-- a refusal changes nothing, but refusal 2, which ends the tunnel and empties the table: the request, demand 1; document 01, "Refusal numbers"
+abbrev pub RefusedKeeps : (block : List ℕ) (call : Call) → Type 0
 RefusedKeeps s c = (number taken : ℕ) → answer s c ≡ refused number taken → step s c ≡ cond (eqb number 2) downBlock s
 
 -- "more needed" changes nothing; its answer has neither octets taken nor octets written: document 01, "Tunnel messages"
-abbrev pub MoreNeededKeeps : List ℕ → Call → Type 0
+abbrev pub MoreNeededKeeps : (block : List ℕ) (call : Call) → Type 0
 MoreNeededKeeps s c = answer s c ≡ moreNeeded → step s c ≡ s

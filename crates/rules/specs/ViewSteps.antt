@@ -31,7 +31,7 @@ abbrev pub isVacant : AtPlace → Bool
 isVacant none = true
 isVacant (some a) = false
 
-abbrev pub isServing : ℕ → AtPlace → Bool
+abbrev pub isServing : (endpoint : ℕ) → AtPlace → Bool
 isServing endpoint none = false
 isServing endpoint (some a) = eqb (endpointIn a) endpoint
 
@@ -40,13 +40,13 @@ abbrev pub associationAt : AtPlace → Association
 associationAt none = Answer.opened [] 0
 associationAt (some a) = a
 
-abbrev pub firstWith : (AtPlace → Bool) → View → Association
+abbrev pub firstWith : (test : AtPlace → Bool) → View → Association
 firstWith p v = associationAt (getD (v .table) (Search.first p (v .table)) none)
 
-abbrev pub setFirst : (AtPlace → Bool) → AtPlace → View → View
+abbrev pub setFirst : (test : AtPlace → Bool) (new : AtPlace) → View → View
 setFirst p x v = record { tunnel = v .tunnel; table = set (v .table) (Search.first p (v .table)) x }
 
-abbrev pub has : (AtPlace → Bool) → View → Bool
+abbrev pub has : (test : AtPlace → Bool) → View → Bool
 has p v = Search.someOf p (v .table)
 
 -- all key fields replaced
@@ -57,7 +57,7 @@ rekey k (Answer.keyed i e old) = Answer.keyed i e k
 abbrev pub downView : View
 downView = record { tunnel = down; table = replicate places none }
 
-abbrev pub upView : List ℕ → View
+abbrev pub upView : (list : List ℕ) → View
 upView list = record { tunnel = upWith list; table = replicate places none }
 
 abbrev pub isDown : View → Bool
@@ -65,26 +65,26 @@ isDown v = not (isUp (v .tunnel))
 
 -- ---- the calls
 
-unfoldable pub startVerdict : View → List ℕ → (room : ℕ) → Verdict
+unfoldable pub startVerdict : View → (list : List ℕ) (room : ℕ) → Verdict
 startVerdict v list room = startOrder (isUp (v .tunnel)) (not (goodList list)) (noRoom (startMessage list) room)
 
-unfoldable pub openVerdict : View → List ℕ → ℕ → Verdict
+unfoldable pub openVerdict : View → (identifier : List ℕ) (endpoint : ℕ) → Verdict
 openVerdict v i e = openOrder (isDown v) (wrongWidth i) (has (isFor i) v) (has (isServing e) v) (not (has isVacant v))
 
-abbrev pub packetMessage : View → ℕ → List ℕ → Message
+abbrev pub packetMessage : View → (endpoint : ℕ) (packet : List ℕ) → Message
 packetMessage v e packet = tunneledDtls (identifierIn (firstWith (isServing e) v)) packet
 
-unfoldable pub packetVerdict : View → ℕ → List ℕ → (room : ℕ) → Verdict
+unfoldable pub packetVerdict : View → (endpoint : ℕ) (packet : List ℕ) (room : ℕ) → Verdict
 packetVerdict v e packet room =
     packetOrder (isDown v) (not (has (isServing e) v)) (notDtls packet) (tooLong packet) (noRoom (packetMessage v e packet) room)
 
-unfoldable pub closeVerdict : View → List ℕ → (room : ℕ) → Verdict
+unfoldable pub closeVerdict : View → (identifier : List ℕ) (room : ℕ) → Verdict
 closeVerdict v i room = closeOrder (isDown v) (wrongWidth i) (not (has (isFor i) v)) (noRoom (endpointDisconnect i) room)
 
-unfoldable pub lookVerdict : View → ℕ → Verdict
+unfoldable pub lookVerdict : View → (endpoint : ℕ) → Verdict
 lookVerdict v e = lookOrder (isDown v) (not (has (isServing e) v))
 
-unfoldable pub keysVerdict : View → List ℕ → (profile : ℕ) → KeyLengths → Verdict
+unfoldable pub keysVerdict : View → (identifier : List ℕ) (profile : ℕ) → KeyLengths → Verdict
 keysVerdict v i profile k =
     keysOrder (not (has (isFor i) v)) (not (inList profile (listIn (v .tunnel)))) (not (keysFit profile k)) (not (mkiAndSaltsFit k))
 
@@ -92,7 +92,7 @@ keysVerdict v i profile k =
 abbrev pub endpointFor : View → (identifier : List ℕ) → ℕ
 endpointFor v identifier = endpointIn (firstWith (isFor identifier) v)
 
-unfoldable pub fieldsAnswer : View → List ℕ → Fields → (taken : ℕ) → Answer
+unfoldable pub fieldsAnswer : View → (octets : List ℕ) → Fields → (taken : ℕ) → Answer
 fieldsAnswer v octets (SupportedProfiles x n) taken = refused 4 taken
 fieldsAnswer v octets (UnsupportedVersion x) taken = version x taken
 fieldsAnswer v octets (MediaKeys profile k) taken =
@@ -102,7 +102,7 @@ fieldsAnswer v octets (TunneledDtls n) taken =
 fieldsAnswer v octets EndpointDisconnect taken =
     cond (has (isFor (partIn octets identifierBounds)) v) (removed (endpointFor v (partIn octets identifierBounds)) taken) (refused 6 taken)
 
-unfoldable pub fieldsNext : View → List ℕ → Fields → View
+unfoldable pub fieldsNext : View → (octets : List ℕ) → Fields → View
 fieldsNext v octets (SupportedProfiles x n) = v
 fieldsNext v octets (UnsupportedVersion x) = downView
 fieldsNext v octets (MediaKeys profile k) =
@@ -112,12 +112,12 @@ fieldsNext v octets (TunneledDtls n) = v
 fieldsNext v octets EndpointDisconnect =
     cond (has (isFor (partIn octets identifierBounds)) v) (setFirst (isFor (partIn octets identifierBounds)) none v) v
 
-abbrev pub readAnswer : View → List ℕ → Read.Answer → Answer
+abbrev pub readAnswer : View → (octets : List ℕ) → Read.Answer → Answer
 readAnswer v octets Read.moreNeeded = moreNeeded
 readAnswer v octets (Read.refused number taken) = refused number taken
 readAnswer v octets (Read.accepted f taken) = fieldsAnswer v octets f taken
 
-abbrev pub readNext : View → List ℕ → Read.Answer → View
+abbrev pub readNext : View → (octets : List ℕ) → Read.Answer → View
 readNext v octets Read.moreNeeded = v
 readNext v octets (Read.refused number taken) = cond (eqb number 2) downView v
 readNext v octets (Read.accepted f taken) = fieldsNext v octets f

@@ -7,14 +7,14 @@ use native.Mathlib.Omega.{arith}
 use lib.ListN.{length, take, replicate, length-append, length-take, length-replicate}
 use lib.Seq.{take-append-add}
 use mir.Val.{boolByte}
-use Rattle.octets.specs.Number.{octets16}
+use Rattle.octets.specs.Number.{octets16, octetsOf32}
 use Rattle.octets.specs.Part.{part}
 use Rattle.octets.specs.Write.{over}
 use Rattle.octets.proofs.PartLaws.{part-front}
 use Rattle.message.specs.Limits.{width, mkiLimit}
 use Rattle.rules.specs.Answer.{opened, keyed, found}
 use Rattle.rules.specs.Keys.{Keys}
-use Rattle.rules.specs.Layout.{padded, field, octetsOf32}
+use Rattle.rules.specs.Layout.{padded, field}
 use Rattle.rules.specs.Limits.{keyLimit}
 use Rattle.rules.proofs.FieldLaws.{padded-length, field-length}
 use Rattle.service.specs.Limits.{keysLength, recordLength}

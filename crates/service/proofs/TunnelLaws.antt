@@ -8,7 +8,7 @@ use native.Mathlib.Omega.{arith}
 use lib.Dec.{eqb}
 use lib.ListN.{length, drop, length-take, length-drop}
 use Rattle.octets.specs.Bounds.{partIn}
-use Rattle.octets.specs.Number.{octets16}
+use Rattle.octets.specs.Number.{octets16, octetsOf32}
 use Rattle.octets.specs.Part.{part}
 use Rattle.octets.specs.declared.parts.Bounds.{Bounds}
 use Rattle.octets.proofs.Tests.{by-choice}
@@ -18,7 +18,7 @@ use Rattle.message.specs.Read as Read
 use Rattle.message.specs.declared.bodies.Fields.{Fields}
 use Rattle.message.specs.declared.bodies.Fields.the-variants.{SupportedProfiles, UnsupportedVersion, MediaKeys, TunneledDtls, EndpointDisconnect}
 use Rattle.rules.specs.Answer.{Answer, refused, keysStored, delivery, removed, ofDelivery, answered}
-use Rattle.rules.specs.Layout.{up, octetsOf32}
+use Rattle.rules.specs.Layout.{up}
 use Rattle.distributor.specs.Outcomes.{receivedOf}
 use Rattle.rules.specs.Refusals.{receiving}
 use Rattle.rules.specs.Table.{endpointFor, knows, keysVerdict, fieldsAnswer, readAnswer, octetsAnswer}

@@ -4,10 +4,10 @@ use mathlib.Core.Path.{_≡_}
 use mathlib.Core.List.{List, [], _∷_, _++_}
 use lib.ListN.{length, drop, replicate}
 use Rattle.octets.specs.Bounds.{partIn}
-use Rattle.octets.specs.Number.{octets16}
+use Rattle.octets.specs.Number.{octets16, octetsOf32}
 use Rattle.message.specs.Limits.{mkiLimit, saltLimit}
 use Rattle.rules.specs.Limits.{keyLimit}
-use Rattle.rules.specs.Layout.{field, octetsOf32}
+use Rattle.rules.specs.Layout.{field}
 use Rattle.rules.specs.Call as Call
 use Rattle.rules.specs.Call.{Call}
 use Rattle.rules.specs.Answer.{Association, opened, keyed, Answer, refused, moreNeeded, wrote, placed, ended, found, keysStored, delivery, removed, version}

@@ -1,7 +1,7 @@
-pub mod Standing
+pub mod FoundLaws
 pub mod ReadLimits
-pub mod FieldsStand
+pub mod FieldsMatch
 pub mod SplitLimits
-pub mod TagStands
+pub mod TagMatches
 pub mod TopBit
 pub mod WriteLaws

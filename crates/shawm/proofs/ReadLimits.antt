@@ -71,10 +71,10 @@ module _ (s : List ℕ) where
     -- a body that the walk w ends, read as f (the type of walks is `message`'s own, and not named here)
     ended : (w : _) (f : Fields) → (complete body w ≡ true → fieldsEnd f ≡ header + w .at) → (Octets body → Small f)
         → BodyLimits (cond (complete body w) (Body.fields f) (Body.refused 5))
-    ended w f stands small =
+    ended w f found small =
         by-choice BodyLimits (complete body w) _ _
         (λ e. record {
-          ends = omega (arith, stands e, complete-says body w e .1, body-length s n (whole .there), whole .there);
+          ends = omega (arith, found e, complete-says body w e .1, body-length s n (whole .there), whole .there);
           small = λ o. small (part-octets s header (header + n) o);
         })
         (λ _. omega arith)

@@ -18,7 +18,7 @@ use Rattle.message.specs.Parts.{meaning}
 use Rattle.message.specs.Write as Write
 use Rattle.message.specs.declared.bodies.Fields.{Fields}
 use Rattle.message.specs.declared.bodies.Fields.the-variants.{SupportedProfiles, UnsupportedVersion, MediaKeys, TunneledDtls, EndpointDisconnect}
-use Rattle.message.proofs.VerdictLaws.{encode-length}
+use Rattle.message.proofs.AnswerLaws.{encode-length}
 use Rattle.ekt.specs.Splitting as Split
 use Rattle.shawm.specs.Numbers.{numberIn, fieldNumber}
 use Rattle.shawm.specs.Tag.{spiOrEpoch, tagNumber}

@@ -22,17 +22,17 @@ use Rattle.shawm.specs.Tag.{tagType}
 
 -- ---- bounds
 
--- these octets stand at these bounds in the lent ones, and none of them is cut off
-pub record Stands (s : List ℕ) (b : Bounds) (octets : List ℕ) : Type 0 where
+-- these octets are found at these bounds in the lent ones, and none of them is cut off
+pub record FoundAt (s : List ℕ) (b : Bounds) (octets : List ℕ) : Type 0 where
   pub ordered : b .start ≤ b .end
   pub inside : b .end ≤ length s
   pub counted : length octets ≡ b .end - b .start
   pub same : partIn s b ≡ octets
 
--- every entry of a list, a number and octets: the octets stand at the number's bounds
-abbrev pub AllStand : (s : List ℕ) (bounds : ℕ → Bounds) → List (ℕ × List ℕ) → Type 0
-AllStand s bounds [] = Unit {0}
-AllStand s bounds (x ∷ rest) = Stands s (bounds (x .0)) (x .1) × AllStand s bounds rest
+-- every entry of a list, a number and octets: the octets are found at the number's bounds
+abbrev pub AllFound : (s : List ℕ) (bounds : ℕ → Bounds) → List (ℕ × List ℕ) → Type 0
+AllFound s bounds [] = Unit {0}
+AllFound s bounds (x ∷ rest) = FoundAt s (bounds (x .0)) (x .1) × AllFound s bounds rest
 
 -- a number that is not in the list
 abbrev pub NotListed : (number : ℕ) → List (ℕ × List ℕ) → Type 0
@@ -41,7 +41,7 @@ NotListed number (x ∷ rest) = (number ≡ x .0 → ⊥) × NotListed number re
 
 -- the bounds by number are those of the list; any other number has none, from 0 to 0
 pub record BoundsMatch (s : List ℕ) (bounds : ℕ → Bounds) (list : List (ℕ × List ℕ)) : Type 0 where
-  pub listed : AllStand s bounds list
+  pub listed : AllFound s bounds list
   pub others : (number : ℕ) → NotListed number list → bounds number ≡ nowhere
 
 -- a message's fields by their numbers in the C interface
@@ -92,7 +92,7 @@ ReadTopBit s Read.moreNeeded = readNumber s Read.moreNeeded < topBit
 ReadTopBit s (Read.refused number taken) = IsRefusal (readNumber s (Read.refused number taken)) number
 ReadTopBit s (Read.accepted fields taken) = readNumber s (Read.accepted fields taken) < topBit
 
-abbrev pub WriteTopBit : Write.Verdict → Type 0
+abbrev pub WriteTopBit : Write.Answer → Type 0
 WriteTopBit (Write.refused number) = IsRefusal (writeNumber (Write.refused number)) number
 WriteTopBit (Write.written count) = writeNumber (Write.written count) < topBit
 

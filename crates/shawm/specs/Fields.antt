@@ -1,4 +1,4 @@
--- Where a field of a message stands, by its number in the C interface. One that is not there is empty, from 0 to 0.
+-- Where a field of a message begins and ends, by its number in the C interface. One that is not there is empty, from 0 to 0.
 use Prim.Native.Nat.{ℕ}
 use mathlib.Core.Bool.{cond}
 use mathlib.Core.List.{List}

@@ -15,7 +15,7 @@ tagType (short start) = 0
 tagType (full spi epoch start end) = 2
 tagType (extension messageType start end) = messageType
 
--- where a part stands, by its number in the C interface: 1 front, 2 ciphertext, 3 extension data
+-- where a part begins and ends, by its number in the C interface: 1 front, 2 ciphertext, 3 extension data
 unfoldable pub partBounds : Split → (part : ℕ) → Bounds
 partBounds s part =
     cond (eqb part 1) (frontBounds s)

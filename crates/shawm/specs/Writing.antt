@@ -4,10 +4,10 @@ use mathlib.Core.Path.{_≡_}
 use mathlib.Core.List.{List}
 use lib.ListN.{length}
 use Rattle.message.specs.Message.{Message}
-use Rattle.message.specs.Write.{Verdict, refused, written, writing, output}
+use Rattle.message.specs.Write.{Answer, refused, written, writing, output}
 use Rattle.shawm.specs.Refusal.{refusal}
 
-abbrev pub writeNumber : Verdict → ℕ
+abbrev pub writeNumber : Answer → ℕ
 writeNumber (refused number) = refusal number
 writeNumber (written count) = count
 

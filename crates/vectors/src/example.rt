@@ -8,7 +8,7 @@ use lines::words::say;
 pub fn case(line: &[u8], list: &[u8]) {
     cases::echo(line);
     let mut out = [FILL; 10];
-    message::write_supported_profiles(0, list, &mut out);
+    writers::write_supported_profiles(0, list, &mut out);
     compare(&message::two_profiles(), &out);
 }
 

@@ -3,7 +3,7 @@ use crate::messages;
 use lines::print;
 use lines::words;
 use lines::words::say;
-use message::Write;
+use writers::Write;
 
 pub fn outcome(answer: Write, out: &[u8]) {
     say(words::COLON);

@@ -7,7 +7,7 @@ use crate::outputs::FILL;
 use crate::outputs::ROOM;
 use crate::writes;
 use lines::numbers;
-use message::Write;
+use writers::Write;
 
 pub fn case(line: &[u8], given: &[u8]) {
     match cases::call(line) {
@@ -35,21 +35,21 @@ fn write(line: &[u8], given: &[u8], out: &mut [u8]) -> Write {
 fn write_short(call: u8, given: &[u8], out: &mut [u8]) -> Write {
     match call {
         b'l' => supported_profiles(given, out),
-        b'v' => message::write_unsupported_version(octets::octet(given, 0), out),
-        _ => message::write_endpoint_disconnect(given, out),
+        b'v' => writers::write_unsupported_version(octets::octet(given, 0), out),
+        _ => writers::write_endpoint_disconnect(given, out),
     }
 }
 
 // The version stands before the list.
 fn supported_profiles(given: &[u8], out: &mut [u8]) -> Write {
     let list = octets::part(given, 1, given.len());
-    message::write_supported_profiles(octets::octet(given, 0), list, out)
+    writers::write_supported_profiles(octets::octet(given, 0), list, out)
 }
 
 fn tunneled_dtls(line: &[u8], given: &[u8], out: &mut [u8]) -> Write {
     let end = numbers::number(line, 2);
     let identifier = octets::part(given, 0, end);
-    message::write_tunneled_dtls(identifier, octets::part(given, end, given.len()), out)
+    writers::write_tunneled_dtls(identifier, octets::part(given, end, given.len()), out)
 }
 
 fn media_keys(line: &[u8], given: &[u8], out: &mut [u8]) -> Write {
@@ -79,7 +79,7 @@ fn write_keys(
     client_salt: usize,
     out: &mut [u8],
 ) -> Write {
-    message::write_media_keys(
+    writers::write_media_keys(
         octets::part(given, 0, identifier),
         0x0102,
         octets::part(given, identifier, mki),

@@ -4,7 +4,6 @@ use mathlib.Core.Bool.{true, false}
 use Rattle.rules.specs.Layout as L
 use borrow.Author.Needs.{needs}
 use Rattle.rules.specs.Table as Spec
-use Rattle.distributor.specs.Outcomes as Out
 use Rattle.distributor.proofs.ending.end.Statement.{statement}
 use Rattle.distributor.proofs.ending.end.Tie as tie
 

@@ -1,6 +1,4 @@
-use Rattle.rules.specs.Layout as L
 use borrow.Author.Needs.{needs}
-use Rattle.rules.specs.Table as Spec
 use Rattle.distributor.specs.Record as R
 use Rattle.distributor.proofs.looking.keys_of.Statement.{statement}
 use Rattle.distributor.proofs.looking.keys_of.Tie as tie

@@ -34,7 +34,7 @@ returns-3 c =
     let size : length s ≡ L.blockLength = search needs in
     let h = c .before .before .if2 .left in
     let p = lt-ltb _ _ h in
-    let row : c .record-of .result ≡ R.recordOf (L.rowOf s (c .before .before .before .place-of-endpoint .result .place)) = c .record-of .ensures ∙ ap R.recordOf (c .before .row-at .ensures) in
+    let row : c .record-of .result ≡ R.recordOf (L.rowOf s (c .before .before .before .place-of-endpoint .result .place)) = c .record-of .ensures ∙ ap R.recordOf (c .before .row-at .ensures .octets) in
     let read = record-read (L.rowOf s (c .before .before .before .place-of-endpoint .result .place)) (row-length s (record { size = size }) (c .before .before .before .place-of-endpoint .result .place) h) in
     (rw (row, u, ← (c .before .before .before .place-of-endpoint .ensures .0), p) (ap found read), rw (row, u, ← (c .before .before .before .place-of-endpoint .ensures .0), p))
 

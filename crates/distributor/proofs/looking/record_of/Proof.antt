@@ -1,8 +1,6 @@
 use mathlib.Core.Path.{sym, _∙_}
 use borrow.Author.Tests.{eq-eqb, ne-eqb}
-use Rattle.rules.specs.Layout as L
 use borrow.Author.Needs.{needs}
-use Rattle.rules.specs.Table as Spec
 use Rattle.distributor.specs.Record as R
 use Rattle.distributor.proofs.looking.record_of.Statement.{statement}
 use Rattle.distributor.proofs.looking.record_of.Tie as tie

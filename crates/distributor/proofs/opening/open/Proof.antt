@@ -10,21 +10,21 @@ use Rattle.distributor.proofs.opening.open.Tie as tie
 
 put-open-requires : tie.Need-put-open-requires
 put-open-requires c κs =
-    let a = c .before .before .before .before .before .before .before .before .args in
+    let a = c .before .before .before .before .before .before .before .args in
     let v = told-allowed (Spec.openVerdict (now (a .state)) (now (a .identifier)) (a .endpoint)) (Spec.vacantPlace (now (a .state))) (c .before .before .place .given .1) (c .before .before .before .before .check-open .ensures) in
-    (search needs, rw (v .1) (ltb-true _ _ (open-passed (now (a .state)) (now (a .identifier)) (a .endpoint) (sym (v .0)) .room)))
+    rw (v .1) (ltb-true _ _ (open-passed (now (a .state)) (now (a .identifier)) (a .endpoint) (sym (v .0)) .room))
 
 returns : tie.Need-returns
 unfolding Spec.answer Spec.step Spec.openAnswer Spec.openNext
 returns c =
-    let a = c .before .before .before .before .before .before .before .before .before .args in
+    let a = c .before .before .before .before .before .before .before .before .args in
     let v = told-allowed (Spec.openVerdict (now (a .state)) (now (a .identifier)) (a .endpoint)) (Spec.vacantPlace (now (a .state))) (c .before .before .before .place .given .1) (c .before .before .before .before .before .check-open .ensures) in
     (rw (← (v .0), v .1), c .put-open .ensures ∙ rw (← (v .0), v .1))
 
 returns-2 : tie.Need-returns-2
 unfolding Spec.answer Spec.step Spec.openAnswer Spec.openNext
 returns-2 c =
-    let a = c .before .before .before .before .before .before .before .args in
+    let a = c .before .before .before .before .before .before .args in
     let v = told-refused (Spec.openVerdict (now (a .state)) (now (a .identifier)) (a .endpoint)) (Spec.vacantPlace (now (a .state))) (c .before .number .given .1) (c .before .before .before .check-open .ensures) in
     (rw (← v), rw (← v))
 

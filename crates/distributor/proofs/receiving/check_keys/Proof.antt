@@ -23,7 +23,7 @@ unfolding Spec.keysVerdict
 returns-2 c =
     rw (
       c .refused2 .ensures,
-      ap (λ (n : ℕ). ltb n places) (sym (c .before .before .before .before .before .place-of-identifier .ensures)) ∙ lt-ltb _ _ (c .before .before .before .before .if1 .left),
+      ap (λ (n : ℕ). ltb n places) (sym (c .before .before .before .before .before .before .place-of-identifier .ensures)) ∙ lt-ltb _ _ (c .before .before .before .before .before .if1 .left),
       ap (inList _) (sym (c .before .before .before .list-of .ensures)) ∙ sym (c .before .before .in-list .ensures) ∙ not-true _ (c .before .if2 .taken),
     )
 
@@ -32,7 +32,7 @@ unfolding Spec.keysVerdict
 returns-3 c =
     rw (
       c .refused3 .ensures,
-      ap (λ (n : ℕ). ltb n places) (sym (c .before .before .before .before .before .before .before .place-of-identifier .ensures)) ∙ lt-ltb _ _ (c .before .before .before .before .before .before .if1 .left),
+      ap (λ (n : ℕ). ltb n places) (sym (c .before .before .before .before .before .before .before .before .place-of-identifier .ensures)) ∙ lt-ltb _ _ (c .before .before .before .before .before .before .before .if1 .left),
       ap (inList _) (sym (c .before .before .before .before .before .list-of .ensures)) ∙ sym (c .before .before .before .before .in-list .ensures) ∙ not-false _ (c .before .before .before .if2 .left),
       sym (c .before .before .keys-fit .ensures) ∙ not-true _ (c .before .if3 .taken),
     )
@@ -42,7 +42,7 @@ unfolding Spec.keysVerdict
 returns-4 c =
     rw (
       c .refused4 .ensures,
-      ap (λ (n : ℕ). ltb n places) (sym (c .before .before .before .before .before .before .before .before .before .place-of-identifier .ensures)) ∙ lt-ltb _ _ (c .before .before .before .before .before .before .before .before .if1 .left),
+      ap (λ (n : ℕ). ltb n places) (sym (c .before .before .before .before .before .before .before .before .before .before .place-of-identifier .ensures)) ∙ lt-ltb _ _ (c .before .before .before .before .before .before .before .before .before .if1 .left),
       ap (inList _) (sym (c .before .before .before .before .before .before .before .list-of .ensures)) ∙ sym (c .before .before .before .before .before .before .in-list .ensures) ∙ not-false _ (c .before .before .before .before .before .if2 .left),
       sym (c .before .before .before .before .keys-fit .ensures) ∙ not-false _ (c .before .before .before .if3 .left),
       sym (c .before .before .mki-and-salts-fit .ensures) ∙ not-true _ (c .before .if4 .taken),
@@ -52,11 +52,11 @@ returns-5 : tie.Need-returns-5
 unfolding Spec.keysVerdict
 returns-5 c =
     rw (
-      ap (λ (n : ℕ). ltb n places) (sym (c .before .before .before .before .before .before .before .before .place-of-identifier .ensures)) ∙ lt-ltb _ _ (c .before .before .before .before .before .before .before .if1 .left),
+      ap (λ (n : ℕ). ltb n places) (sym (c .before .before .before .before .before .before .before .before .before .place-of-identifier .ensures)) ∙ lt-ltb _ _ (c .before .before .before .before .before .before .before .before .if1 .left),
       ap (inList _) (sym (c .before .before .before .before .before .before .list-of .ensures)) ∙ sym (c .before .before .before .before .before .in-list .ensures) ∙ not-false _ (c .before .before .before .before .if2 .left),
       sym (c .before .before .before .keys-fit .ensures) ∙ not-false _ (c .before .before .if3 .left),
       sym (c .before .mki-and-salts-fit .ensures) ∙ not-false _ (c .if4 .left),
-    ) (ap Check.Allowed (c .before .before .before .before .before .before .before .before .place-of-identifier .ensures))
+    ) (ap Check.Allowed (c .before .before .before .before .before .before .before .before .before .place-of-identifier .ensures))
 
 pub check-keys-spec : {M : Type 1} → statement M
 check-keys-spec =

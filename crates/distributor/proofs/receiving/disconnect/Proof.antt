@@ -9,12 +9,12 @@ use Rattle.distributor.proofs.receiving.disconnect.Tie as tie
 
 returns : tie.Need-returns
 returns c =
-    let a = c .before .before .before .before .before .before .before .before .before .before .before .before .before .args in
-    disconnected (now (a .state)) (now (a .s)) (a .taken) (c .before .before .before .before .before .before .before .before .place-of-identifier .result) (c .before .before .before .before .before .before .before .before .place-of-identifier .ensures ∙ ap (Spec.placeOfIdentifier (now (a .state))) (c .before .before .before .before .before .before .before .before .before .before .identifier .ensures .octets)) _ (c .before .before .before .before .before .before .before .if1 .taken) (c .before .before .before .before .endpoint-of .ensures ∙ ap endpointOf (c .before .before .before .before .before .row-at .ensures)) (c .before .before .put-vacant .ensures)
+    let a = c .before .before .before .before .before .before .before .before .before .before .args in
+    disconnected (now (a .state)) (now (a .s)) (a .taken) (c .before .before .before .before .before .before .place-of-identifier .result) (c .before .before .before .before .before .before .place-of-identifier .ensures ∙ ap (Spec.placeOfIdentifier (now (a .state))) (c .before .before .before .before .before .before .before .before .identifier .ensures .octets)) _ (c .before .before .before .before .before .if1 .taken) (c .before .before .endpoint-of .ensures ∙ ap endpointOf (c .before .before .before .row-at .ensures .octets)) (c .put-vacant .ensures)
 
 returns-2 : tie.Need-returns-2
 returns-2 c =
-    let a = c .before .before .before .before .before .before .args in
+    let a = c .before .before .before .before .before .args in
     not-disconnected (now (a .state)) (now (a .s)) (a .taken) (c .before .place-of-identifier .result) (c .before .place-of-identifier .ensures ∙ ap (Spec.placeOfIdentifier (now (a .state))) (c .before .before .before .identifier .ensures .octets)) (c .if1 .left)
 
 pub disconnect-spec : {M : Type 1} → statement M
@@ -26,7 +26,5 @@ disconnect-spec =
     (λ c κs. search needs)
     (λ c κs. search needs)
     (λ c κs. search needs)
-    (λ c. search needs)
     returns
-    (λ c. search needs)
     returns-2)

@@ -11,21 +11,21 @@ use Rattle.distributor.proofs.receiving.take_body.Tie as tie
 
 returns : tie.Need-returns
 returns c =
-    let a = c .before .before .before .before .before .before .args in
+    let a = c .before .before .before .before .before .args in
     let n = a .body-length in
     of-reading (now (a .state)) (now (a .s)) (ap (bodyAnswer (header + n)) (ap contentOf (sym (c .enum-told .given .1)) ∙ c .before .before .read-body .ensures ∙ ap (content (a .kind)) (c .before .before .before .part .ensures .octets))) (refl, refl)
 
 returns-2 : tie.Need-returns-2
 returns-2 c =
-    let a = c .before .before .before .before .before .before .args in
+    let a = c .before .before .before .before .before .args in
     let n = a .body-length in
     of-reading (now (a .state)) (now (a .s)) (ap (bodyAnswer (header + n)) (ap contentOf (sym (c .enum-told2 .given .1)) ∙ c .before .before .read-body .ensures ∙ ap (content (a .kind)) (c .before .before .before .part .ensures .octets))) (refl, refl)
 
 returns-3 : tie.Need-returns-3
 returns-3 c =
-    let a = c .before .before .before .before .before .before .before .before .before .before .before .args in
+    let a = c .before .before .before .before .before .before .before .before .args in
     let n = a .body-length in
-    of-reading (now (a .state)) (now (a .s)) (ap (bodyAnswer (header + n)) (ap contentOf (sym (c .before .before .before .before .before .fields .given .1)) ∙ c .before .before .before .before .before .before .before .read-body .ensures ∙ ap (content (a .kind)) (c .before .before .before .before .before .before .before .before .part .ensures .octets))) (c .before .before .take-fields .ensures)
+    of-reading (now (a .state)) (now (a .s)) (ap (bodyAnswer (header + n)) (ap contentOf (sym (c .before .before .before .fields .given .1)) ∙ c .before .before .before .before .before .read-body .ensures ∙ ap (content (a .kind)) (c .before .before .before .before .before .before .part .ensures .octets))) (c .take-fields .ensures)
 
 pub take-body-spec : {M : Type 1} → statement M
 take-body-spec =
@@ -40,5 +40,4 @@ take-body-spec =
     (λ c κs. search needs)
     returns
     returns-2
-    (λ c. search needs)
     returns-3)

@@ -9,30 +9,30 @@ use Rattle.distributor.proofs.receiving.take_fields.Tie as tie
 returns : tie.Need-returns
 unfolding Spec.fieldsAnswer Spec.fieldsNext
 returns c =
-    let a = c .before .before .before .before .args in
+    let a = c .before .before .before .args in
     of-fields (now (a .state)) (now (a .s)) (a .taken) (c .enum-told .given .1) (refl, refl)
 
 returns-2 : tie.Need-returns-2
 unfolding Spec.fieldsAnswer Spec.fieldsNext
 returns-2 c =
-    let a = c .before .before .before .before .before .before .before .before .before .args in
-    of-fields (now (a .state)) (now (a .s)) (a .taken) (c .before .before .before .before .before .fields .given .1) (refl, c .before .before .put-down .ensures)
+    let a = c .before .before .before .before .before .before .args in
+    of-fields (now (a .state)) (now (a .s)) (a .taken) (c .before .before .before .fields .given .1) (refl, c .put-down .ensures)
 
 returns-3 : tie.Need-returns-3
 returns-3 c =
-    let a = c .before .before .before .before .before .before .before .before .before .args in
-    of-fields (now (a .state)) (now (a .s)) (a .taken) (c .before .before .before .before .before .fields2 .given .1) (c .before .before .take-keys .ensures)
+    let a = c .before .before .before .before .before .before .args in
+    of-fields (now (a .state)) (now (a .s)) (a .taken) (c .before .before .before .fields2 .given .1) (c .take-keys .ensures)
 
 returns-4 : tie.Need-returns-4
 unfolding Spec.fieldsNext
 returns-4 c =
-    let a = c .before .before .before .before .before .before .before .args in
+    let a = c .before .before .before .before .before .before .args in
     of-fields (now (a .state)) (now (a .s)) (a .taken) (c .before .before .before .fields3 .given .1) (c .deliver .ensures, refl)
 
 returns-5 : tie.Need-returns-5
 returns-5 c =
-    let a = c .before .before .before .before .before .before .before .before .args in
-    of-fields (now (a .state)) (now (a .s)) (a .taken) (c .before .before .before .before .enum-told2 .given .1) (c .before .before .disconnect .ensures)
+    let a = c .before .before .before .before .before .args in
+    of-fields (now (a .state)) (now (a .s)) (a .taken) (c .before .before .enum-told2 .given .1) (c .disconnect .ensures)
 
 pub take-fields-spec : {M : Type 1} → statement M
 take-fields-spec =
@@ -48,11 +48,7 @@ take-fields-spec =
     (λ c. search needs)
     (λ c κs. search needs)
     returns
-    (λ c. search needs)
     returns-2
-    (λ c. search needs)
     returns-3
-    (λ c. search needs)
     returns-4
-    (λ c. search needs)
     returns-5)

@@ -1,8 +1,6 @@
-use mathlib.Core.Path.{ap, ap₂, _∙_}
+use mathlib.Core.Path.{ap, _∙_}
 use mathlib.Core.List.{List}
 use Prim.Native.Nat.{ℕ}
-use denote.Ref.{now}
-use Rattle.rules.specs.Layout as L
 use Rattle.rules.specs.Index as Index
 use borrow.Author.Needs.{needs}
 use Rattle.distributor.proofs.storing.put_open.Statement.{statement}
@@ -10,10 +8,15 @@ use Rattle.distributor.proofs.storing.put_open.Tie as tie
 
 returns : tie.Need-returns
 returns c =
-    let i = c .before .before in
-    let o = i .before .before .before .before in
-    let a = o .before .before .before .before .args in
-    i .put-in .ensures ∙ ap (λ (s : List ℕ). Index.withEntry s (a .endpoint) (a .place)) (o .put-open-row .ensures)
+    let o = c .before .before in
+    let a = o .before .before .before .args in
+    c .put-in .ensures ∙ ap (λ (s : List ℕ). Index.withEntry s (a .endpoint) (a .place)) (o .put-open-row .ensures)
 
 pub put-open-spec : {M : Type 1} → statement M
-put-open-spec = tie.close (tie.spec (λ c κs. search needs) (λ c. search needs) (λ c κs. search needs) (λ c. search needs) returns)
+put-open-spec =
+    tie.close
+    (tie.spec
+    (λ c κs. search needs)
+    (λ c. search needs)
+    (λ c κs. search needs)
+    returns)

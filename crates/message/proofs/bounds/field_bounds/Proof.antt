@@ -12,7 +12,7 @@ returns-3 : tie.Need-returns-3
 returns-3 c = rw (c .before .before .fields2 .given .1, c .before .before .before .before .identified .ensures, c .key-bounds .ensures)
 
 returns-4 : tie.Need-returns-4
-returns-4 c = rw (c .before .before .fields3 .given .1, c .before .before .before .before .identified .ensures, c .behind5 .ensures)
+returns-4 c = rw (c .before .before .fields3 .given .1, c .before .before .before .before .identified .ensures, c .dtls-bounds .ensures)
 
 returns-5 : tie.Need-returns-5
 returns-5 c = rw (c .enum-told2 .given .1, c .before .before .identified .ensures)

@@ -1,6 +1,5 @@
 use mathlib.Core.List.{_∷_, _++_}
-use Rattle.octets.specs.Number.{octets16}
-use Rattle.rules.specs.Layout.{octetsOf32}
+use Rattle.octets.specs.Number.{octets16, octetsOf32}
 use native.Mathlib.Omega.{arith}
 use Prim.Native.Nat.{_+_}
 use denote.Ref.{now}

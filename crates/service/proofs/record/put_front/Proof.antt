@@ -5,8 +5,8 @@ use native.Mathlib.Omega.{arith}
 use denote.Ref.{now}
 use lib.ListN.{length-append}
 use mir.Val.{boolByte}
+use Rattle.octets.specs.Number.{octetsOf32}
 use Rattle.octets.specs.Write.{over}
-use Rattle.rules.specs.Layout.{octetsOf32}
 use Rattle.service.proofs.PieceLaws.{three}
 use Rattle.service.proofs.RecordLaws.{state-is, state-small}
 use borrow.Author.Needs.{needs}

@@ -1,0 +1,2 @@
+pub mod RowPart
+pub mod Spots

@@ -1,0 +1,3 @@
+pub mod LengthLaws
+pub mod OutputLaws
+pub mod Pieces
