@@ -8,6 +8,8 @@
  *   write   writes each of the five tunnel messages from its fields
  *   tag     finds the EKT tag at the end of a media packet (RFC 8870,
  *           section 4.1), and says where its parts are
+ *   page    reads a status page: which places of the table are taken, by which
+ *           endpoints, and which of them have keys
  *
  * What it does not: open sockets, speak TLS or DTLS, encrypt, or look at a clock.
  *
@@ -26,9 +28,10 @@
  *   Every function answers for every input. There is nothing to check before.
  *
  * How to read an answer
- *   A uint32_t from shawm_sort, shawm_read, shawm_tag or one of the writers is a
- *   refusal exactly when its top bit, SHAWM_REFUSED, is set; its low octet is then
- *   the refusal's number (enum shawm_refusal). The bits between are 0 today and may
+ *   A uint32_t from shawm_sort, shawm_read, shawm_tag, shawm_page_count,
+ *   shawm_page_entry or one of the writers is a refusal exactly when its top bit,
+ *   SHAWM_REFUSED, is set; its low octet is then the refusal's number (enum
+ *   shawm_refusal). The bits between are 0 today and may
  *   come to say more, so take the number with shawm_refusal_number. A refused call
  *   writes nothing.
  *
@@ -36,8 +39,8 @@
  *       if (shawm_is_refusal(answer))
  *           log_it(shawm_refusal_number(answer));
  *
- *   The other functions (start, length, number, taken) give an offset, a length or
- *   a number, and 0 where there is none.
+ *   The other functions (start, length, number, taken, endpoint) give an offset, a
+ *   length or a number, and 0 where there is none.
  *
  * Link with -lshawm. x86-64 only.
  */
@@ -71,7 +74,13 @@ extern "C" {
  * two length octets beside it. */
 #define SHAWM_DTLS_LIMIT (SHAWM_BODY_LIMIT - SHAWM_IDENTIFIER_OCTETS - 2)
 
-/* Refusal numbers. The functions below give 2, 3, 5, 13, 18, 19 and 20. The others
+/* Live associations at most: the places of the table, numbered from 0. */
+#define SHAWM_PLACES 32
+
+/* The longest status page: 6 bits and 38 for each place, in whole octets. */
+#define SHAWM_PAGE_LIMIT 153
+
+/* Refusal numbers. The functions below give 2, 3, 5, 13, 18, 19, 20 and 29. The others
  * belong to the table of associations, which is not called from C; they are
  * listed so that a number in a log has a name. Where more than one fits, the
  * function's comment says which is given. */
@@ -95,7 +104,8 @@ enum shawm_refusal {
     SHAWM_TUNNEL_UP = 17,           /* the tunnel is up already */
     SHAWM_NO_TAG = 18,              /* no EKT tag of the grammar ends this packet */
     SHAWM_EMPTY_PACKET = 19,        /* empty packet to sort */
-    SHAWM_IDENTIFIER_LENGTH = 20    /* identifier not of SHAWM_IDENTIFIER_OCTETS */
+    SHAWM_IDENTIFIER_LENGTH = 20,   /* identifier not of SHAWM_IDENTIFIER_OCTETS */
+    SHAWM_NOT_A_PAGE = 29           /* octets that no table's page has, or a page without that entry */
 };
 
 /* 1 if an answer is a refusal, 0 if not. */
@@ -258,6 +268,28 @@ enum shawm_tag_field {
 /* The value of a number of a Full tag; 0 where there is none. */
 uint32_t shawm_tag_number(const uint8_t *packet, size_t n, uint32_t field);
 
+/* ----------------------------------------------------- reading a status page */
+
+/* A status page shows which places of the table are taken: the number of live
+ * associations in 6 bits; for each live place, the lowest first, the place in 5
+ * bits, its state in 1 (1: keyed, 0: open), its endpoint in 32; zero bits up to a
+ * whole octet. Highest bits first. While the tunnel is down it shows none. The relay
+ * writes it (docs/RELAY.md). It holds no identifier and nothing of a key. */
+
+/* How many entries the page has: 0 to SHAWM_PLACES. Refused with SHAWM_NOT_A_PAGE
+ * where no table has these octets as its page: an octet too many or too few, ones
+ * behind the last entry, places that do not rise, an endpoint twice. */
+uint32_t shawm_page_count(const uint8_t *page, size_t n);
+
+/* The place and the state of the entry with this number, counted from 0: twice the
+ * place, and 1 more where it is keyed. Refused with SHAWM_NOT_A_PAGE where there is
+ * no page, or none with such an entry. */
+uint32_t shawm_page_entry(const uint8_t *page, size_t n, size_t number);
+
+/* The endpoint of that entry: any number of 32 bits, so ask shawm_page_entry whether
+ * there is one. 0 where there is none. */
+uint32_t shawm_page_endpoint(const uint8_t *page, size_t n, size_t number);
+
 /* ------------------------------------------------------- inline functions */
 
 /* A part of octets that you lent. Where there is none, at is NULL and n is 0; a
@@ -313,6 +345,31 @@ static inline uint32_t shawm_read_message(const uint8_t *octets, size_t n,
     message->server_salt = shawm_field(octets, n, SHAWM_FIELD_SERVER_SALT);
     message->dtls = shawm_field(octets, n, SHAWM_FIELD_DTLS);
     return message->answer;
+}
+
+/* A live place of the table, as a status page shows it. */
+struct shawm_entry {
+    uint32_t place;
+    uint32_t keyed;     /* 1 keyed, 0 open */
+    uint32_t endpoint;
+};
+
+/* Reads a whole page into entries, which has room for SHAWM_PLACES, and answers as
+ * shawm_page_count does. What stands behind the entries of the page, and all of it
+ * beside a refusal, keeps its values. */
+static inline uint32_t shawm_read_page(const uint8_t *page, size_t n,
+                                       struct shawm_entry *entries)
+{
+    uint32_t count = shawm_page_count(page, n), i;
+
+    for (i = 0; !shawm_is_refusal(count) && i < count; i++) {
+        uint32_t entry = shawm_page_entry(page, n, i);
+
+        entries[i].place = entry / 2;
+        entries[i].keyed = entry % 2;
+        entries[i].endpoint = shawm_page_endpoint(page, n, i);
+    }
+    return count;
 }
 
 #ifdef __cplusplus

@@ -4,6 +4,9 @@ use crate::calls::{Calls, Rust, RECORD};
 use crate::scan::Scan;
 use crate::sorted::Sorted;
 
+/// The length of a full page.
+const PAGE_LIMIT: usize = 153;
+
 pub struct Random(pub u64);
 
 impl Random {
@@ -161,20 +164,22 @@ fn random_call(r: &mut Random, people: usize) -> Call {
         0 => r.below(people),
         _ => who,
     });
-    let room = match r.below(10) {
-        0 => r.below(40),
-        _ => 4200,
-    };
-    let out = r.octets(room);
-    let number = match r.below(400) {
+    let number = match r.below(420) {
         0 => 5,
         1..=20 => 0,
         21..=200 => 1,
         201..=240 => 2,
         241..=320 => 3,
         321..=360 => 4,
-        _ => 6,
+        361..=399 => 6,
+        _ => 7,
     };
+    let room = match r.below(10) {
+        0 => r.below(40),
+        1..=4 if number == 7 => r.below(PAGE_LIMIT + 2),
+        _ => 4200,
+    };
+    let out = r.octets(room);
     let octets = match number {
         0 => random_list(r),
         2 => random_packet(r),
@@ -208,7 +213,8 @@ fn give<T: Calls>(t: &mut T, call: &Call) -> Got {
         3 => t.tunnel_octets(s, &mut more),
         4 => t.close(id, &mut out),
         5 => t.end(),
-        _ => t.look(ep, &mut record),
+        6 => t.look(ep, &mut record),
+        _ => t.write_page(&mut out),
     };
     Got {
         answer,
@@ -229,8 +235,8 @@ fn compare(number: usize, a: &Got, b: &Got) {
 
 /// Gives `lists` lists of `length` calls each to the proved table and to both Rust tables, and counts
 /// each answer seen by call: accepted, refused.
-pub fn run<T: Calls>(lists: usize, length: usize) -> [[usize; 2]; 7] {
-    let mut seen = [[0; 2]; 7];
+pub fn run<T: Calls>(lists: usize, length: usize) -> [[usize; 2]; 8] {
+    let mut seen = [[0; 2]; 8];
     let mut r = Random(9185);
     for list in 0..lists {
         let mut proved = T::first();

@@ -1,4 +1,4 @@
-//! The seven calls of the tables behind one signature each, so that all are called alike and none
+//! The eight calls of the tables behind one signature each, so that all are called alike and none
 //! is inlined into the loops that measure it. `crates/measure` says what the numbers mean.
 
 use crate::table::{Lookup, Received, Refusal, Table};
@@ -18,6 +18,7 @@ pub trait Calls: Clone {
     fn close(&mut self, identifier: &[u8], out: &mut [u8]) -> u64;
     fn end(&mut self) -> u64;
     fn look(&self, endpoint: u32, out: &mut [u8; RECORD]) -> u64;
+    fn write_page(&self, out: &mut [u8]) -> u64;
 }
 
 extern "C" {
@@ -49,6 +50,7 @@ extern "C" {
     pub fn measure_end(s: &mut [u8; BLOCK]) -> u64;
     pub fn measure_block() -> u64;
     pub fn measure_look(s: &[u8; BLOCK], endpoint: u32, out: &mut [u8; RECORD]) -> u64;
+    pub fn measure_page(s: &[u8; BLOCK], o: *mut u8, on: usize) -> u64;
 }
 
 /// The block of the proved distributor; the first state is a block of zeros.
@@ -90,6 +92,9 @@ impl Calls for Rattle {
     }
     fn look(&self, endpoint: u32, out: &mut [u8; RECORD]) -> u64 {
         unsafe { measure_look(&self.0, endpoint, out) }
+    }
+    fn write_page(&self, out: &mut [u8]) -> u64 {
+        unsafe { measure_page(&self.0, out.as_mut_ptr(), out.len()) }
     }
 }
 
@@ -184,5 +189,9 @@ impl<L: Lookup> Calls for Rust<L> {
                 record.endpoint as u64
             }
         }
+    }
+    #[inline(never)]
+    fn write_page(&self, out: &mut [u8]) -> u64 {
+        number(self.0.write_page(out))
     }
 }

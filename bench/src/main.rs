@@ -2,6 +2,7 @@
 //! same answers on random lists of calls. Prints Markdown.
 
 mod agree;
+mod bits;
 mod calls;
 mod scan;
 mod sorted;
@@ -50,9 +51,10 @@ enum Case {
     Close,
     End,
     Look,
+    Page,
 }
 
-const NAMES: [&str; 7] = [
+const NAMES: [&str; 8] = [
     "start",
     "open",
     "booth packet",
@@ -60,6 +62,7 @@ const NAMES: [&str; 7] = [
     "close",
     "end",
     "look",
+    "write page",
 ];
 
 struct Row {
@@ -203,6 +206,7 @@ fn once<T: Calls>(case: Case, live: usize, run: usize) -> f64 {
         Case::Close => moving(t, |t, i| t.close(&ids[at(i)], out)),
         Case::End => moving(t, |t, _| t.end()),
         Case::Look => still(t, |t, i| t.look(eps[at(i)], &mut record)),
+        Case::Page => still(t, |t, _| t.write_page(out)),
     }
 }
 
@@ -240,6 +244,7 @@ fn rows() -> Vec<Row> {
         ("close", "accepted", Case::Close),
         ("end", "accepted", Case::End),
         ("look", "keyed record", Case::Look),
+        ("write page", "keyed records", Case::Page),
     ] {
         for live in [1, 16, 32] {
             rows.push(Row {
@@ -353,6 +358,13 @@ fn print_agreement() {
     }
 }
 
+/// The page that is measured.
+fn page<T: Calls>(live: usize) -> Vec<u8> {
+    let mut out = [0xEE; 4200];
+    let n = prepared::<T>(live).write_page(&mut out);
+    out[..n as usize].to_vec()
+}
+
 /// What the figures rest on.
 fn assert_fair() {
     assert_eq!(unsafe { calls::measure_block() }, calls::BLOCK as u64);
@@ -362,6 +374,15 @@ fn assert_fair() {
         size_of::<Rust<Sorted>>(),
     ] {
         assert_eq!(size / 64 % 2, 1);
+    }
+    for live in [1, 16, 32] {
+        let pages = [
+            page::<Rattle>(live),
+            page::<Rust<Scan>>(live),
+            page::<Rust<Sorted>>(live),
+        ];
+        assert_eq!(pages[0].len(), (6 + 38 * live).div_ceil(8));
+        assert!(pages[1] == pages[0] && pages[2] == pages[0]);
     }
     let live: Vec<u32> = (0..PLACES).map(endpoint).collect();
     assert!((PLACES..PLACES + NEWCOMERS).all(|i| !live.contains(&endpoint(i))));

@@ -23,4 +23,8 @@ impl Lookup for Scan {
     fn insert(&mut self, _: (), _: u32, _: usize) {}
 
     fn remove(&mut self, _: u32) {}
+
+    fn count(&self, records: &[Record; PLACES]) -> usize {
+        records.iter().filter(|r| r.is_live()).count()
+    }
 }

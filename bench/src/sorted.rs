@@ -58,4 +58,8 @@ impl Lookup for Sorted {
             self.count -= 1;
         }
     }
+
+    fn count(&self, _: &[Record; PLACES]) -> usize {
+        self.count
+    }
 }

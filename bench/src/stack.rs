@@ -12,12 +12,12 @@ struct Stretch([u8; DEPTH]);
 
 thread_local! {
     static STRETCH: RefCell<Stretch> = const { RefCell::new(Stretch([0; DEPTH])) };
-    static MOST: RefCell<[usize; 7]> = const { RefCell::new([0; 7]) };
+    static MOST: RefCell<[usize; 8]> = const { RefCell::new([0; 8]) };
     static TURN: RefCell<usize> = const { RefCell::new(0) };
 }
 
 /// The most stack that each call has taken so far.
-pub fn most() -> [usize; 7] {
+pub fn most() -> [usize; 8] {
     MOST.with_borrow(|m| *m)
 }
 
@@ -133,5 +133,10 @@ impl Calls for Painted {
         let f = calls::measure_look as *const ();
         let o = out.as_mut_ptr() as u64;
         painted(6, f, [self.0.as_ptr() as u64, endpoint as u64, o, 0, 0, 0])
+    }
+    fn write_page(&self, out: &mut [u8]) -> u64 {
+        let f = calls::measure_page as *const ();
+        let (o, on) = (out.as_mut_ptr() as u64, out.len() as u64);
+        painted(7, f, [self.0.as_ptr() as u64, o, on, 0, 0, 0])
     }
 }

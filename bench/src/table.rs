@@ -1,12 +1,18 @@
-//! An ordinary Rust table that does the work of the distributor's seven calls: an array of records,
+//! An ordinary Rust table that does the work of the distributor's eight calls: an array of records,
 //! searched from the front for an identifier, and by a `Lookup` for an endpoint. It has no heap, no
 //! unsafe code and no dependency.
+
+use crate::bits::BitWriter;
 
 pub const PLACES: usize = 32;
 const WIDTH: usize = 16;
 const HEADER: usize = 3;
 const BODY_LIMIT: usize = 4096;
 const PACKET_LIMIT: usize = BODY_LIMIT - WIDTH - 2;
+const COUNT_BITS: usize = 6;
+const PLACE_BITS: usize = 5;
+const ENDPOINT_BITS: usize = 32;
+const ENTRY_BITS: usize = PLACE_BITS + 1 + ENDPOINT_BITS;
 
 /// A refusal by its number.
 #[derive(Clone, Copy, Debug, PartialEq, Eq)]
@@ -102,6 +108,9 @@ pub trait Lookup: Copy {
     fn insert(&mut self, gap: Self::Gap, endpoint: u32, place: usize);
 
     fn remove(&mut self, endpoint: u32);
+
+    /// How many records are live.
+    fn count(&self, records: &[Record; PLACES]) -> usize;
 }
 
 #[derive(Clone, Copy)]
@@ -449,5 +458,24 @@ impl<L: Lookup> Table<L> {
         self.require_up()?;
         let place = self.place_of_endpoint(endpoint).ok_or(Refusal(6))?;
         Ok(self.records[place])
+    }
+
+    /// The status page. With the tunnel down no record is live.
+    pub fn write_page(&self, out: &mut [u8]) -> Result<usize, Refusal> {
+        let count = self.lookup.count(&self.records);
+        let length = (COUNT_BITS + count * ENTRY_BITS).div_ceil(8);
+        let Some(out) = out.get_mut(..length) else {
+            return Err(Refusal(13));
+        };
+        let mut page = BitWriter::new(out);
+        page.put(count as u32, COUNT_BITS);
+        for (place, r) in self.records.iter().enumerate() {
+            if r.is_live() {
+                page.put((place as u32) << 1 | r.is_keyed() as u32, PLACE_BITS + 1);
+                page.put(r.endpoint, ENDPOINT_BITS);
+            }
+        }
+        page.finish();
+        Ok(length)
     }
 }

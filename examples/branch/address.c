@@ -3,7 +3,6 @@
 #include "log.h"
 
 #include <netdb.h>
-#include <netinet/in.h>
 #include <stdio.h>
 #include <string.h>
 
@@ -22,7 +21,7 @@ int address_parse(const char *host, const char *port, int type, struct address *
         return -1;
     }
     memset(address, 0, sizeof *address);
-    memcpy(&address->at, found->ai_addr, found->ai_addrlen);
+    memcpy(&address->at, found->ai_addr, found->ai_addrlen);   /* of one of the two families, as the host is a numeral */
     address->n = found->ai_addrlen;
     freeaddrinfo(found);
     return 0;
@@ -41,12 +40,12 @@ static int same6(const struct sockaddr_in6 *a, const struct sockaddr_in6 *b)
 
 int address_same(const struct address *a, const struct address *b)
 {
-    if (a->at.ss_family != b->at.ss_family)
+    if (a->at.any.sa_family != b->at.any.sa_family)
         return 0;
-    if (a->at.ss_family == AF_INET)
-        return same4((const struct sockaddr_in *)&a->at, (const struct sockaddr_in *)&b->at);
-    if (a->at.ss_family == AF_INET6)
-        return same6((const struct sockaddr_in6 *)&a->at, (const struct sockaddr_in6 *)&b->at);
+    if (a->at.any.sa_family == AF_INET)
+        return same4(&a->at.four, &b->at.four);
+    if (a->at.any.sa_family == AF_INET6)
+        return same6(&a->at.six, &b->at.six);
     return 0;
 }
 
@@ -54,10 +53,10 @@ void address_text(const struct address *address, char text[ADDRESS_TEXT])
 {
     char host[64], port[8];
 
-    if (getnameinfo((const struct sockaddr *)&address->at, address->n, host, sizeof host, port, sizeof port,
+    if (getnameinfo(&address->at.any, address->n, host, sizeof host, port, sizeof port,
                     NI_NUMERICHOST | NI_NUMERICSERV) != 0)
         snprintf(text, ADDRESS_TEXT, "an unknown address");
-    else if (address->at.ss_family == AF_INET6)
+    else if (address->at.any.sa_family == AF_INET6)
         snprintf(text, ADDRESS_TEXT, "[%s]:%s", host, port);
     else
         snprintf(text, ADDRESS_TEXT, "%s:%s", host, port);

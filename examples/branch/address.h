@@ -2,10 +2,15 @@
 #ifndef BRANCH_ADDRESS_H
 #define BRANCH_ADDRESS_H
 
+#include <netinet/in.h>
 #include <sys/socket.h>
 
 struct address {
-    struct sockaddr_storage at;
+    union {
+        struct sockaddr any;
+        struct sockaddr_in four;
+        struct sockaddr_in6 six;
+    } at;
     socklen_t n;
 };
 

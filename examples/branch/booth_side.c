@@ -15,16 +15,18 @@ static void refused(const char *name, const char *what, unsigned number)
 }
 
 /* A booth that sends its first DTLS packet gets an association. *opened is NULL where that was refused. */
-static int open_booth(struct branch *branch, const struct address *from, struct booth **opened)
+static int open_booth(struct branch *branch, const struct address *from, const struct listed *listed,
+                      struct booth **opened)
 {
-    struct booth *booth = booths_add(&branch->booths, from, now());
-    char name[ADDRESS_TEXT], id[IDENTIFIER_TEXT];
+    struct booth *booth = booths_add(&branch->booths, from, listed, now());
+    char id[IDENTIFIER_TEXT];
     struct answer answer;
 
     *opened = NULL;
     if (booth == NULL || identifier_make(booth->identifier) != 0) {
-        address_text(from, name);
-        say("booth %s: not opened: %s", name, booth == NULL ? "too many booths" : strerror(errno));
+        const char *why = booth == NULL ? "too many booths" : strerror(errno);
+
+        say("booth %s: not opened: %s", booth_label(from, listed), why);
         if (booth != NULL)
             booths_remove(booth);
         return 0;
@@ -32,13 +34,14 @@ static int open_booth(struct branch *branch, const struct address *from, struct 
     if (relay_open(&branch->relay, booth->endpoint, booth->identifier, &answer) != 0)
         return -1;
     if (answer.kind == ANSWER_REFUSED) {
-        refused(booth->name, "opening", answer.number);
+        refused(booth_name(booth), "opening", answer.number);
         booths_remove(booth);
         return 0;
     }
     identifier_text(booth->identifier, id);
-    say("booth %s: endpoint %lu, association %s opened at place %u", booth->name, (unsigned long)booth->endpoint, id,
-        answer.number);
+    say("booth %s: endpoint %lu, association %s opened at place %u", booth_name(booth),
+        (unsigned long)booth->endpoint, id, answer.number);
+    branch->status.changed = 1;
     *opened = booth;
     return 0;
 }
@@ -51,12 +54,12 @@ static int to_tunnel(struct branch *branch, struct booth *booth, const struct pa
     if (relay_packet(&branch->relay, booth->endpoint, packet->octets, packet->n, &answer) != 0)
         return -1;
     if (answer.kind == ANSWER_REFUSED) {
-        refused(booth->name, "packet", answer.number);
+        refused(booth_name(booth), "packet", answer.number);
         return 0;
     }
     booth->heard = now();
     if (tunnel_queue(&branch->tunnel, answer.octets, answer.n, TUNNEL_SPARE) != 0)
-        say("booth %s: packet lost: the key distributor does not keep up", booth->name);
+        say("booth %s: packet lost: the key distributor does not keep up", booth_name(booth));
     return 0;
 }
 
@@ -77,45 +80,57 @@ static void media(struct booth *booth, const struct packet *packet)
 
     booth->heard = now();
     if (packet->cut) {
-        say("booth %s: media dropped: above %d octets", booth->name, UDP_PACKET);
+        say("booth %s: media dropped: above %d octets", booth_name(booth), UDP_PACKET);
         return;
     }
     if (tag != booth->tag)
-        say("booth %s: media with %s", booth->name, tag_kind(tag));
+        say("booth %s: media with %s", booth_name(booth), tag_kind(tag));
     booth->tag = tag;
 }
 
-/* From an address that has no association. */
-static int from_unknown(struct branch *branch, uint32_t kind, const struct packet *packet)
+/* With a list of booths: 1 if a packet from an address that has no association is taken, *listed being its line. Others
+ * are dropped: those of strangers, and those from another port of a booth that has an association, since they would be
+ * of another endpoint. */
+static int is_listed(struct branch *branch, const struct address *from, const struct listed **listed)
 {
-    char name[ADDRESS_TEXT];
+    struct booth *booth;
+    const char *more;
+    char text[ADDRESS_TEXT];
+
+    if ((*listed = list_find(branch->list, from)) == NULL) {
+        if ((more = log_limited(&branch->strangers)) != NULL)
+            say("booth %s: packet dropped: not in the list of booths%s", booth_label(from, NULL), more);
+        return 0;
+    }
+    if ((booth = booths_by_endpoint(&branch->booths, (*listed)->endpoint)) == NULL)
+        return 1;
+    if ((more = log_limited(&booth->others)) != NULL) {
+        address_text(from, text);
+        say("booth %s: packet from %s dropped: the association is not with that port%s", booth_name(booth), text, more);
+    }
+    return 0;
+}
+
+/* From an address that has no association. */
+static int from_unknown(struct branch *branch, uint32_t kind, const struct listed *listed, const struct packet *packet)
+{
     struct booth *booth;
 
     if (kind != SHAWM_KIND_DTLS) {
-        address_text(&packet->from, name);
-        say("booth %s: packet dropped: not DTLS, and no association with that address", name);
+        say("booth %s: packet dropped: not DTLS, and no association with that address",
+            booth_label(&packet->from, listed));
         return 0;
     }
-    if (open_booth(branch, &packet->from, &booth) != 0)
+    if (open_booth(branch, &packet->from, listed, &booth) != 0)
         return -1;
     return booth == NULL ? 0 : to_tunnel(branch, booth, packet);
 }
 
-int branch_packet(struct branch *branch, const struct packet *packet)
+/* From a booth that has an association. */
+static int from_known(struct branch *branch, uint32_t kind, struct booth *booth, const struct packet *packet)
 {
-    struct booth *booth = booths_by_address(&branch->booths, &packet->from);
-    uint32_t kind = shawm_sort(packet->octets, packet->n);
-    char name[ADDRESS_TEXT];
-
-    if (shawm_is_refusal(kind)) {
-        address_text(&packet->from, name);
-        refused(name, "packet", shawm_refusal_number(kind));
-        return 0;
-    }
-    if (booth == NULL)
-        return from_unknown(branch, kind, packet);
     if (kind == SHAWM_KIND_STUN) {
-        say("booth %s: STUN, which belongs to others", booth->name);
+        say("booth %s: STUN, which belongs to others", booth_name(booth));
         return 0;
     }
     if (kind == SHAWM_KIND_RTP) {
@@ -123,4 +138,21 @@ int branch_packet(struct branch *branch, const struct packet *packet)
         return 0;
     }
     return to_tunnel(branch, booth, packet);
+}
+
+int branch_packet(struct branch *branch, const struct packet *packet)
+{
+    struct booth *booth = booths_by_address(&branch->booths, &packet->from);
+    const struct listed *listed = booth == NULL ? NULL : booth->listed;
+    uint32_t kind = shawm_sort(packet->octets, packet->n);
+
+    if (booth == NULL && branch->list != NULL && !is_listed(branch, &packet->from, &listed))
+        return 0;
+    if (shawm_is_refusal(kind)) {
+        refused(booth_label(&packet->from, listed), "packet", shawm_refusal_number(kind));
+        return 0;
+    }
+    if (booth == NULL)
+        return from_unknown(branch, kind, listed, packet);
+    return from_known(branch, kind, booth, packet);
 }

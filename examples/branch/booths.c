@@ -1,9 +1,28 @@
 #include "booths.h"
 
+#include <stdio.h>
 #include <string.h>
 
 /* No packet of it has come yet: no answer of shawm_tag is this. */
 enum { NO_MEDIA_YET = 256 };
+
+const char *booth_label(const struct address *address, const struct listed *listed)
+{
+    static char label[ADDRESS_TEXT + LISTED_NAME + 4];
+    char text[ADDRESS_TEXT];
+
+    address_text(address, text);
+    if (listed == NULL)
+        snprintf(label, sizeof label, "%s", text);
+    else
+        snprintf(label, sizeof label, "%s (%s)", text, listed->name);
+    return label;
+}
+
+const char *booth_name(const struct booth *booth)
+{
+    return booth_label(&booth->address, booth->listed);
+}
 
 struct booth *booths_by_address(struct booths *booths, const struct address *address)
 {
@@ -46,7 +65,8 @@ static struct booth *vacant(struct booths *booths)
     return NULL;
 }
 
-struct booth *booths_add(struct booths *booths, const struct address *address, int64_t heard)
+struct booth *booths_add(struct booths *booths, const struct address *address, const struct listed *listed,
+                         int64_t heard)
 {
     struct booth *booth = vacant(booths);
 
@@ -55,8 +75,8 @@ struct booth *booths_add(struct booths *booths, const struct address *address, i
     memset(booth, 0, sizeof *booth);
     booth->live = 1;
     booth->address = *address;
-    address_text(address, booth->name);
-    booth->endpoint = ++booths->last;
+    booth->listed = listed;
+    booth->endpoint = listed == NULL ? ++booths->last : listed->endpoint;
     booth->heard = heard;
     booth->tag = NO_MEDIA_YET;
     return booth;

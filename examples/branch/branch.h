@@ -8,14 +8,19 @@
 #define BRANCH_BRANCH_H
 
 #include "booths.h"
-#include "udp.h"
+#include "list.h"
 #include "relay.h"
+#include "status.h"
 #include "tunnel.h"
+#include "udp.h"
 
 struct branch {
     struct relay relay;
     struct tunnel tunnel;
     struct booths booths;
+    const struct list *list;      /* NULL: every address is served */
+    struct log_limit strangers;   /* for packets from addresses that are not in the list */
+    struct status status;
     int udp;
     struct address distributor;
     int64_t idle;     /* how long a booth may be silent, in milliseconds */
@@ -39,6 +44,11 @@ void branch_ended(struct branch *branch, const char *why);
  * is due at branch_due. */
 int branch_tick(struct branch *branch);
 int64_t branch_due(struct branch *branch);
+
+/* Has the status page written, if that may have changed or is due (status_side.c). The second is for the program's end:
+ * the tunnel is down, and `relay` is 0 if there is no relay to ask any more. */
+int branch_show(struct branch *branch);
+void branch_show_last(struct branch *branch, int relay);
 
 /* Closes a booth's association and tells the key distributor (lifetime.c). */
 int branch_close(struct branch *branch, struct booth *booth, const char *why);

@@ -18,6 +18,8 @@ void branch_ended(struct branch *branch, const char *why)
 {
     unsigned count = booths_clear(&branch->booths);
 
+    if (branch->tunnel.state == TUNNEL_CONNECTED)
+        branch->status.changed = 1;
     tunnel_close(&branch->tunnel);
     branch->moment = now() + branch->retry;
     say("tunnel: down: %s; %u associations gone; next connection in %ld ms", why, count, (long)branch->retry);
@@ -48,6 +50,7 @@ int branch_connected(struct branch *branch)
     if (tunnel_queue(&branch->tunnel, answer.octets, answer.n, 0) != 0)
         return branch_disconnected(branch, "no room for its first message");
     say("tunnel: up: version 0, profiles 0x0009 and 0x000A");
+    branch->status.changed = 1;
     return 0;
 }
 
@@ -65,9 +68,10 @@ int branch_close(struct branch *branch, struct booth *booth, const char *why)
     if (relay_close(&branch->relay, booth->identifier, &answer) != 0)
         return -1;
     if (answer.kind == ANSWER_REFUSED)
-        say("booth %s: closing refused, %u: %s", booth->name, answer.number, refusal_meaning(answer.number));
+        say("booth %s: closing refused, %u: %s", booth_name(booth), answer.number, refusal_meaning(answer.number));
     else
-        say("booth %s: closed: %s", booth->name, why);
+        say("booth %s: closed: %s", booth_name(booth), why);
+    branch->status.changed = 1;
     booths_remove(booth);
     if (answer.kind == ANSWER_WRITTEN && tunnel_queue(&branch->tunnel, answer.octets, answer.n, 0) != 0)
         return branch_disconnected(branch, "the key distributor does not read");
@@ -97,11 +101,18 @@ int branch_tick(struct branch *branch)
     return 0;
 }
 
+/* The first of two moments. */
+static int64_t earlier(int64_t a, int64_t b)
+{
+    return a < b ? a : b;
+}
+
 int64_t branch_due(struct branch *branch)
 {
     struct booth *booth = booths_most_idle(&branch->booths);
+    int64_t shown = status_due(&branch->status);
 
     if (branch->tunnel.state != TUNNEL_CONNECTED)
-        return branch->moment;   /* no booth is live without a tunnel */
-    return booth == NULL ? INT64_MAX : booth->heard + branch->idle;
+        return earlier(shown, branch->moment);   /* no booth is live without a tunnel */
+    return booth == NULL ? shown : earlier(shown, booth->heard + branch->idle);
 }

@@ -1,5 +1,7 @@
 #include "log.h"
 
+#include "clock.h"
+
 #include <errno.h>
 #include <stdarg.h>
 #include <stdio.h>
@@ -37,4 +39,21 @@ void say(const char *format, ...)
         n = LINE_OCTETS - 2;
     line[n] = '\n';
     put(line, (size_t)n + 1);
+}
+
+const char *log_limited(struct log_limit *limit)
+{
+    static char more[48];
+    int64_t moment = now();
+
+    if (moment < limit->again) {
+        limit->left_out++;
+        return NULL;
+    }
+    more[0] = '\0';
+    if (limit->left_out > 0)
+        snprintf(more, sizeof more, "; %lu like it left out", limit->left_out);
+    limit->again = moment + LOG_PAUSE;
+    limit->left_out = 0;
+    return more;
 }

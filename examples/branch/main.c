@@ -3,10 +3,10 @@
 #include "clock.h"
 #include "control.h"
 #include "descriptor.h"
-#include "udp.h"
 #include "log.h"
 #include "options.h"
 #include "signals.h"
+#include "udp.h"
 
 #include <errno.h>
 #include <fcntl.h>
@@ -19,28 +19,22 @@ enum source { SIGNALS, RELAY, CONTROL, TUNNEL, UDP, SOURCES };
 
 enum { GO_ON, END, RELAY_GONE, NO_WAITING };
 
-/* Packets of booths between two looks at everything else: so many that their messages have room in the tunnel's buffer,
- * which is emptied in between. */
-enum { PACKETS_IN_A_ROW = (TUNNEL_OUT - TUNNEL_SPARE) / SHAWM_MESSAGE_LIMIT };
-
 /* How long the last messages may take to go out. */
 enum { LAST_LIMIT = 1000 };
 
 static struct branch branch;
+static struct list list;
 
+/* One packet between two looks at everything else: its message has room in the tunnel's buffer, which is emptied in
+ * between. */
 static int from_udp(void)
 {
     static struct packet packet;
-    int i, got = 1;
+    int got = udp_receive(branch.udp, &packet);
 
-    for (i = 0; i < PACKETS_IN_A_ROW && got == 1; i++) {
-        got = udp_receive(branch.udp, &packet);
-        if (got < 0)
-            say("branch: no packet from the booths: %s", strerror(errno));
-        if (got == 1 && branch_packet(&branch, &packet) != 0)
-            return RELAY_GONE;
-    }
-    return GO_ON;
+    if (got < 0)
+        say("branch: no packet from the booths: %s", strerror(errno));
+    return got == 1 && branch_packet(&branch, &packet) != 0 ? RELAY_GONE : GO_ON;
 }
 
 static int from_tunnel(short events)
@@ -107,26 +101,27 @@ static int loop(int signals, int control)
         }
         if (ready > 0)
             state = deal_with(sources);
-        if (state == GO_ON && branch_tick(&branch) != 0)
+        if (state == GO_ON && (branch_tick(&branch) != 0 || branch_show(&branch) != 0))
             state = RELAY_GONE;
     }
     return state;
 }
 
-/* Closes every association, so that the key distributor knows, and sends what is left to send. */
-static void finish(void)
+/* Closes every association, so that the key distributor knows, and sends what is left to send. -1 if the relay is
+ * gone. */
+static int finish(void)
 {
     struct booth *booth;
     struct answer answer;
 
     while ((booth = booths_most_idle(&branch.booths)) != NULL)
         if (branch_close(&branch, booth, "the branch ends") != 0)
-            return;
+            return -1;
     if (branch.tunnel.state != TUNNEL_CONNECTED)
-        return;
+        return 0;
     if (write_whole(branch.tunnel.fd, branch.tunnel.out, branch.tunnel.out_n, now() + LAST_LIMIT) != 0)
         say("tunnel: last messages lost: %s", strerror(errno));
-    relay_end(&branch.relay, &answer);
+    return relay_end(&branch.relay, &answer);
 }
 
 /* A program without its three standard descriptors would get a socket or a pipe as one of them. */
@@ -140,29 +135,39 @@ static int standard_descriptors(void)
     return fd < 0 ? -1 : close(fd);
 }
 
+/* What the options say, before anything is started. 0, or -1 and a line in the log. */
+static int prepare(const struct options *options)
+{
+    tunnel_init(&branch.tunnel);
+    branch.distributor = options->distributor;
+    branch.idle = options->idle;
+    branch.retry = options->retry;
+    branch.moment = now();
+    branch.status.path = options->status;
+    branch.list = options->booths == NULL ? NULL : &list;
+    if (options->booths != NULL && list_read(&list, options->booths) != 0)
+        return -1;
+    if (options->control >= 0 && descriptor_close_in_children(options->control) != 0) {
+        say("control: %s", strerror(errno));
+        return -1;
+    }
+    return 0;
+}
+
 int main(int count, char **words)
 {
     struct options options;
-    int signals, state;
+    int signals, state, relay;
 
-    if (standard_descriptors() != 0 || options_read(count, words, &options) != 0)
+    if (standard_descriptors() != 0 || options_read(count, words, &options) != 0 || prepare(&options) != 0)
         return EXIT_FAILURE;
-    tunnel_init(&branch.tunnel);
-    branch.distributor = options.distributor;
-    branch.idle = options.idle;
-    branch.retry = options.retry;
-    branch.moment = now();
-    if (options.control >= 0 && descriptor_close_in_children(options.control) != 0) {
-        say("control: %s", strerror(errno));
-        return EXIT_FAILURE;
-    }
     if ((signals = signals_start()) < 0 || (branch.udp = udp_open(&options.listen)) < 0 ||
         relay_start(&branch.relay, options.relay) != 0)
         return EXIT_FAILURE;
     state = loop(signals, options.control);
-    if (state != RELAY_GONE)
-        finish();
+    relay = state != RELAY_GONE && finish() == 0;
     tunnel_close(&branch.tunnel);
+    branch_show_last(&branch, relay);
     relay_stop(&branch.relay);
     say("branch: ended");
     return state == END ? EXIT_SUCCESS : EXIT_FAILURE;

@@ -10,9 +10,11 @@ struct options {
     const char *relay;
     struct address listen;
     struct address distributor;
-    int64_t idle;    /* milliseconds */
+    int64_t idle;          /* milliseconds, as the next */
     int64_t retry;
-    int control;     /* -1 without */
+    const char *status;    /* NULL without, as the next */
+    const char *booths;
+    int control;           /* -1 without */
 };
 
 /* 0, or -1 and lines in the log. */

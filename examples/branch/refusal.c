@@ -22,12 +22,13 @@ static const char *const meanings[] = {
     [SHAWM_TUNNEL_UP] = "the tunnel is up already",
     [SHAWM_NO_TAG] = "no EKT tag ends this packet",
     [SHAWM_EMPTY_PACKET] = "empty packet",
-    [SHAWM_IDENTIFIER_LENGTH] = "identifier not of 16 octets"
+    [SHAWM_IDENTIFIER_LENGTH] = "identifier not of 16 octets",
+    [SHAWM_NOT_A_PAGE] = "no status page, or none with that entry"
 };
 
 const char *refusal_meaning(unsigned number)
 {
-    if (number == 0 || number >= sizeof meanings / sizeof meanings[0])
+    if (number >= sizeof meanings / sizeof meanings[0] || meanings[number] == NULL)
         return "a number that is not in the list";
     return meanings[number];
 }

@@ -1,9 +1,10 @@
-/* The seven calls: a request in a frame, and the answer to it. */
+/* The eight calls: a request in a frame, and the answer to it. */
 #include "relay.h"
 
 #include "clock.h"
 #include "descriptor.h"
 #include "log.h"
+#include "refusal.h"
 #include "wipe.h"
 
 #include <errno.h>
@@ -16,7 +17,8 @@ enum request_kind {
     REQUEST_OCTETS = 4,
     REQUEST_CLOSE = 5,
     REQUEST_END = 6,
-    REQUEST_LOOK = 7
+    REQUEST_LOOK = 7,
+    REQUEST_PAGE = 8
 };
 
 /* Some kinds of answer, one bit to each. */
@@ -105,6 +107,8 @@ static int fits(unsigned kind, size_t n)
         return n == 1 + 2 + 4;
     case ANSWER_DELIVERY:
         return n >= 1 + 2 + 4 + 1;
+    case ANSWER_PAGE:
+        return n > 1 && n <= 1 + SHAWM_PAGE_LIMIT;
     default:
         return 0;
     }
@@ -140,6 +144,7 @@ static void take_apart(const uint8_t *at, size_t n, struct answer *answer)
         break;
     case ANSWER_WRITTEN:
     case ANSWER_FOUND:
+    case ANSWER_PAGE:
         answer->octets = at + 1;
         answer->n = n - 1;
         break;
@@ -241,4 +246,19 @@ int relay_look(struct relay *relay, uint32_t endpoint, struct record *record, st
         answer->n = 0;
     }
     return 0;
+}
+
+/* No refusal belongs to it: the relay has room for every page. */
+int relay_page(struct relay *relay, struct answer *answer)
+{
+    uint32_t count;
+
+    if (call(relay, REQUEST_PAGE, FIRST, ONE(ANSWER_PAGE), answer) != 0)
+        return -1;
+    count = shawm_page_count(answer->octets, answer->n);
+    if (!shawm_is_refusal(count))
+        return 0;
+    say("branch: page refused, %u: %s", (unsigned)shawm_refusal_number(count),
+        refusal_meaning(shawm_refusal_number(count)));
+    return broken("gave what is no page");
 }

@@ -25,7 +25,8 @@ enum answer_kind {
     ANSWER_STORED = 6,
     ANSWER_DELIVERY = 7,
     ANSWER_REMOVED = 8,
-    ANSWER_VERSION = 9
+    ANSWER_VERSION = 9,
+    ANSWER_PAGE = 10
 };
 
 struct answer {
@@ -33,7 +34,7 @@ struct answer {
     unsigned number;         /* refused: the refusal's number; placed: the place; version: the version */
     size_t taken;            /* of the octets from the tunnel */
     uint32_t endpoint;       /* stored, delivery, removed: of the association that the message named */
-    const uint8_t *octets;   /* written: the message; delivery: the DTLS octets. Good until the next call */
+    const uint8_t *octets;   /* written: the message; delivery: the DTLS octets; page. Good until the next call */
     size_t n;
 };
 
@@ -50,7 +51,7 @@ int relay_start(struct relay *relay, const char *path);
 /* Ends the input of the relay, upon which it ends, and waits for that; a relay that stays is killed. */
 void relay_stop(struct relay *relay);
 
-/* The seven calls. 0 and an answer of a kind that belongs to the call; or -1 and a line in the log: the relay is gone
+/* The eight calls. 0 and an answer of a kind that belongs to the call; or -1 and a line in the log: the relay is gone
  * or broken, its table is lost, and no further call may be made. */
 int relay_begin(struct relay *relay, const uint8_t *list, size_t n, struct answer *answer);
 int relay_open(struct relay *relay, uint32_t endpoint, const uint8_t id[SHAWM_IDENTIFIER_OCTETS],
@@ -60,5 +61,6 @@ int relay_octets(struct relay *relay, const uint8_t *octets, size_t n, struct an
 int relay_close(struct relay *relay, const uint8_t id[SHAWM_IDENTIFIER_OCTETS], struct answer *answer);
 int relay_end(struct relay *relay, struct answer *answer);
 int relay_look(struct relay *relay, uint32_t endpoint, struct record *record, struct answer *answer);
+int relay_page(struct relay *relay, struct answer *answer);
 
 #endif

@@ -35,7 +35,7 @@ static int prepare(int fd)
 
 int tunnel_connect(struct tunnel *tunnel, const struct address *to)
 {
-    int problem, fd = socket(to->at.ss_family, SOCK_STREAM, 0);
+    int problem, fd = socket(to->at.any.sa_family, SOCK_STREAM, 0);
 
     if (fd < 0)
         return -1;
@@ -43,7 +43,7 @@ int tunnel_connect(struct tunnel *tunnel, const struct address *to)
         tunnel->fd = fd;
         tunnel->state = TUNNEL_CONNECTING;
         /* An interrupted connect goes on by itself, like one that was begun. */
-        if (connect(fd, (const struct sockaddr *)&to->at, to->n) == 0 || errno == EINPROGRESS || errno == EINTR)
+        if (connect(fd, &to->at.any, to->n) == 0 || errno == EINPROGRESS || errno == EINTR)
             return 0;
     }
     problem = errno;

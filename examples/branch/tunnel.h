@@ -12,10 +12,10 @@
 #include <shawm.h>
 
 enum {
-    TUNNEL_IN = 2 * SHAWM_MESSAGE_LIMIT,   /* more than one, so that there is always room behind one that is not whole */
-    TUNNEL_OUT = 24 * 1024,
+    TUNNEL_IN = SHAWM_MESSAGE_LIMIT + 512,   /* more than one, so that there is always room behind one that is not whole */
     /* Room that DTLS packets leave free: they may be lost, as in any network, but a disconnect may not. */
-    TUNNEL_SPARE = 4 * 1024
+    TUNNEL_SPARE = 2 * 1024,
+    TUNNEL_OUT = SHAWM_MESSAGE_LIMIT + TUNNEL_SPARE
 };
 
 enum tunnel_state { TUNNEL_CLOSED, TUNNEL_CONNECTING, TUNNEL_CONNECTED };

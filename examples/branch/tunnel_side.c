@@ -18,10 +18,10 @@ static int stored(struct branch *branch, struct booth *booth)
     if (relay_look(&branch->relay, booth->endpoint, &record, &answer) != 0)
         return -1;
     if (answer.kind == ANSWER_REFUSED)
-        say("booth %s: look refused, %u: %s", booth->name, answer.number, refusal_meaning(answer.number));
+        say("booth %s: look refused, %u: %s", booth_name(booth), answer.number, refusal_meaning(answer.number));
     else
         say("booth %s: keys stored for endpoint %lu: profile 0x%04x, keys of %zu and %zu octets, salts of %zu and %zu, "
-            "MKI of %zu", booth->name, (unsigned long)booth->endpoint, record_profile(&record),
+            "MKI of %zu", booth_name(booth), (unsigned long)booth->endpoint, record_profile(&record),
             record_length(&record, RECORD_CLIENT_KEY), record_length(&record, RECORD_SERVER_KEY),
             record_length(&record, RECORD_CLIENT_SALT), record_length(&record, RECORD_SERVER_SALT),
             record_length(&record, RECORD_MKI));
@@ -31,13 +31,16 @@ static int stored(struct branch *branch, struct booth *booth)
 
 static void deliver(struct branch *branch, const struct booth *booth, const struct answer *answer)
 {
-    if (udp_send(branch->udp, &booth->address, answer->octets, answer->n) != 0)
-        say("booth %s: DTLS packet lost: %s", booth->name, strerror(errno));
+    if (udp_send(branch->udp, &booth->address, answer->octets, answer->n) != 0) {
+        const char *why = strerror(errno);
+
+        say("booth %s: DTLS packet lost: %s", booth_name(booth), why);
+    }
 }
 
 static void removed(struct booth *booth)
 {
-    say("booth %s: association ended by the key distributor", booth->name);
+    say("booth %s: association ended by the key distributor", booth_name(booth));
     booths_remove(booth);
 }
 
@@ -46,6 +49,8 @@ static int for_booth(struct branch *branch, const struct answer *answer)
 {
     struct booth *booth = booths_by_endpoint(&branch->booths, answer->endpoint);
 
+    if (answer->kind != ANSWER_DELIVERY)
+        branch->status.changed = 1;
     if (booth == NULL) {
         say("tunnel: message for endpoint %lu, which no booth has", (unsigned long)answer->endpoint);
         return 0;

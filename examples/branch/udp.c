@@ -13,11 +13,11 @@ int udp_open(const struct address *at)
 {
     struct address bound = *at;
     char name[ADDRESS_TEXT];
-    int fd = socket(at->at.ss_family, SOCK_DGRAM, 0);
+    int fd = socket(at->at.any.sa_family, SOCK_DGRAM, 0);
 
     address_text(at, name);
-    if (fd < 0 || descriptor_prepare(fd) != 0 || bind(fd, (const struct sockaddr *)&at->at, at->n) != 0 ||
-        getsockname(fd, (struct sockaddr *)&bound.at, &bound.n) != 0) {
+    if (fd < 0 || descriptor_prepare(fd) != 0 || bind(fd, &at->at.any, at->n) != 0 ||
+        getsockname(fd, &bound.at.any, &bound.n) != 0) {
         say("branch: no listening on %s: %s", name, strerror(errno));
         if (fd >= 0)
             close(fd);
@@ -54,7 +54,7 @@ int udp_send(int udp, const struct address *to, const uint8_t *packet, size_t n)
     ssize_t sent;
 
     do
-        sent = sendto(udp, packet, n, 0, (const struct sockaddr *)&to->at, to->n);
+        sent = sendto(udp, packet, n, 0, &to->at.any, to->n);
     while (sent < 0 && errno == EINTR);
     return sent < 0 ? -1 : 0;
 }

@@ -25,7 +25,7 @@ class Child:
 
     def lines(self):
         """The whole lines so far, without what is no text."""
-        return self.output().decode("ascii", "replace").split("\n")[:-1]
+        return self.output().decode("utf-8", "replace").split("\n")[:-1]
 
     def wait_for(self, text, seconds=PATIENCE, anywhere=False):
         """The next line with that text in it, behind the ones that were waited for before; or any such line."""

@@ -6,6 +6,10 @@ import subprocess
 ROOT = os.path.dirname(os.path.dirname(os.path.dirname(os.path.abspath(__file__))))
 RELAY = os.environ.get("SHAWM_RELAY", os.path.join(ROOT, "target", "bin", "relay"))
 
+# For the demo: the screen at the desk, and the library that it reads pages with.
+SCREEN = os.environ.get("SHAWM_SCREEN", os.path.join(ROOT, "screen", "screen"))
+LIBRARY = os.environ.get("SHAWM_LIBRARY", os.path.join(ROOT, "build", "libshawm.so"))
+
 CHECKS = ["-g", "-fsanitize=address,undefined", "-fno-sanitize-recover=all"]
 WRAPPED = ("read", "write", "poll", "recvmsg", "sendto", "recv", "send", "getrandom", "waitpid", "connect")
 INTERRUPTED = ["-U_FORTIFY_SOURCE", "tests/branch/interrupted.c", "-Wl," + ",".join("--wrap=" + call for call in WRAPPED)]

@@ -18,6 +18,10 @@ KEYS = [bytes(range(0x51, 0x61)), bytes(range(0x61, 0x71)), bytes(range(0x71, 0x
 OTHER_KEYS = [bytes(reversed(field)) for field in KEYS]
 
 
+class NotRun(Exception):
+    """This machine has not what the case is about."""
+
+
 class Distributor:
     """Listens for the tunnel; sends octets as it is told and reads messages."""
 
@@ -73,12 +77,17 @@ class Distributor:
 
 
 class Booth:
-    def __init__(self, port):
-        self.socket = socket.socket(socket.AF_INET, socket.SOCK_DGRAM)
-        self.socket.bind(("127.0.0.1", 0))
-        self.socket.connect(("127.0.0.1", port))
+    """Sends from an address of this machine; with a name if it is in the list of booths."""
+
+    def __init__(self, port, host="127.0.0.1", name=None, own_port=0):
+        six = ":" in host
+        self.socket = socket.socket(socket.AF_INET6 if six else socket.AF_INET, socket.SOCK_DGRAM)
+        self.socket.bind((host, own_port))
+        self.socket.connect(("::1" if six else "127.0.0.1", port))
         self.socket.settimeout(10)
-        self.address = "127.0.0.1:%d" % self.socket.getsockname()[1]
+        self.port = self.socket.getsockname()[1]
+        self.address = ("[%s]:%d" if six else "%s:%d") % (host, self.port)
+        self.label = self.address if name is None else "%s (%s)" % (self.address, name)   # in the log
         self.identifier = self.endpoint = None
 
     def send(self, packet):
@@ -118,15 +127,15 @@ class Branch:
     def compare(self, endpoint, keys):
         return self.ask("compare %d %s" % (endpoint, " ".join(field.hex() for field in keys)))
 
-    def booth(self, packet=DTLS):
+    def booth(self, packet=DTLS, **options):
         """A new booth whose first packet has opened an association and come through the tunnel."""
-        booth = Booth(self.port)
+        booth = Booth(self.port, **options)
         self.reopen(booth, packet)
         return booth
 
     def reopen(self, booth, packet=DTLS):
         booth.send(packet)
-        line = self.say("booth %s: endpoint" % booth.address)
+        line = self.say("booth %s: endpoint" % booth.label)
         booth.endpoint = int(line.split("endpoint ")[1].split(",")[0])
         kind, body = self.distributor.message()
         assert kind == messages.TUNNELED_DTLS, kind
@@ -135,7 +144,7 @@ class Branch:
 
     def key(self, booth, keys, profile=0x0009):
         self.distributor.send(messages.media_keys(booth.identifier, profile, *keys))
-        self.say("booth %s: keys stored for endpoint %d: profile 0x%04x" % (booth.address, booth.endpoint, profile))
+        self.say("booth %s: keys stored for endpoint %d: profile 0x%04x" % (booth.label, booth.endpoint, profile))
 
     def relay_process(self):
         """The process number of the relay, its only child."""
@@ -163,11 +172,26 @@ class Bench:
         self.branch = Branch(self.program, self.folder, self.distributor, *options, relay=relay)
         return self.branch, self.distributor
 
-    def up(self, *options):
+    def up(self, *options, **others):
         """A branch with its tunnel."""
-        branch, distributor = self.start(*options)
+        branch, distributor = self.start(*options, **others)
         branch.up()
         return branch, distributor
+
+    def shown(self, *options, **others):
+        """A branch that writes its status page, its tunnel, and the file."""
+        path = self.path("status")
+        return (*self.up("--status", path, *options, **others), path)
+
+    def path(self, name):
+        """A file of this case."""
+        return os.path.join(self.folder, name)
+
+    def write(self, name, text):
+        """Writes such a file, and answers its path."""
+        with open(self.path(name), "wb") as file:
+            file.write(text if isinstance(text, bytes) else text.encode())
+        return self.path(name)
 
     def close(self):
         """Ends the branch, if one runs, and notes what is wrong."""
@@ -175,7 +199,7 @@ class Bench:
             return
         status = self.branch.end()
         self.distributor.close()
-        log = self.branch.child.output().decode("ascii", "replace")
+        log = self.branch.child.output().decode("utf-8", "replace")
         self.branch = None
         wrong = builds.unclean(log)
         if status != self.expected:

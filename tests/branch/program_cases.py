@@ -114,6 +114,17 @@ def relay_answers_wrongly(bench):
         bench.close()
 
 
+def numbers_that_are_in_no_list(bench):
+    """A refusal that nobody knows has its number in the log, and no meaning."""
+    none = "a number that is not in the list"
+    for number, meaning in ((0, none), (20, "identifier not of 16 octets"), (21, none), (28, none),
+                            (29, "no status page, or none with that entry"), (30, none), (255, none)):
+        answer = "\\000\\004\\001\\%03o\\000\\000" % number
+        bad_relay(bench, script(bench, "dd bs=1 count=7 2> /dev/null > /dev/null\nprintf '%s'\n" % answer),
+                  "tunnel: start refused, %d: %s" % (number, meaning))
+        bench.close()
+
+
 def relay_stops_reading(bench):
     """Its answer to Start, and then a closed input: the next request is an error and no signal."""
     answer = "".join("\\" + octet for octet in "000 013 002 001 000 007 000 000 004 000 011 000 012".split())
@@ -178,7 +189,8 @@ def wrong_options(bench):
     good = ["--relay", "/nowhere", "--distributor-port", str(distributor.port)]
     for words, line in (([], "use: "), (["--relay"], "use: "), (good[:2], "use: "), (good + ["--idle", "0"], "use: "),
                         (good + ["--idle", "1x"], "use: "), (good + ["--retry", ""], "use: "),
-                        (good + ["--what", "1"], "use: "),
+                        (good + ["--what", "1"], "use: "), (good + ["--status", ""], "use: "),
+                        (good + ["--booths"], "use: "), (good + ["--status", "/" + "a" * 1011], "use: "),
                         (good + ["--control", "77"], "control: Bad file descriptor"),
                         (good + ["--listen", "localhost"], "branch: localhost port 0 is no address"),
                         (good + ["--distributor-port", "x"], "branch: 127.0.0.1 port x is no address")):
@@ -220,6 +232,6 @@ def nonsense_at_the_control(bench):
 # For one build alone: this waits for a time limit of the program, and this would find what a sanitizer keeps.
 ONLY = {relay_says_nothing: "branch-checked", no_key_stays: "branch-plain"}
 CASES = [told_to_end, no_child_stays, killed_itself, stopped_and_continued, relay_is_killed, relay_is_not_there,
-         relay_ends_at_once, relay_says_nothing, relay_answers_wrongly, relay_stops_reading, relay_gets_what_it_needs,
-         no_key_stays, port_is_taken, wrong_options,
-         without_standard_descriptors, nonsense_at_the_control]
+         relay_ends_at_once, relay_says_nothing, relay_answers_wrongly, numbers_that_are_in_no_list, relay_stops_reading,
+         relay_gets_what_it_needs, no_key_stays, port_is_taken, wrong_options, without_standard_descriptors,
+         nonsense_at_the_control]

@@ -85,6 +85,8 @@ int main(void)
     fields();
     writing();
     tag();
+    page();
+    pages();
     comfort();
     printf("%lu answers as stated\n", checks);
     return checks == 0;

@@ -54,6 +54,31 @@ uint32_t shawm_tag_number(const uint8_t *packet, size_t n, uint32_t field)
     return field < 4 ? paper_split(packet, n).numbers[field] : 0;
 }
 
+uint32_t shawm_page_count(const uint8_t *page, size_t n)
+{
+    return paper_show(page, n).count;
+}
+
+/* How many entries there are; none in what is no page. */
+static size_t entries_of(const struct paper_page *p)
+{
+    return shawm_is_refusal(p->count) ? 0 : p->count;
+}
+
+uint32_t shawm_page_entry(const uint8_t *page, size_t n, size_t number)
+{
+    struct paper_page p = paper_show(page, n);
+
+    return number < entries_of(&p) ? p.entries[number] : SHAWM_REFUSED | SHAWM_NOT_A_PAGE;
+}
+
+uint32_t shawm_page_endpoint(const uint8_t *page, size_t n, size_t number)
+{
+    struct paper_page p = paper_show(page, n);
+
+    return number < entries_of(&p) ? p.endpoints[number] : 0;
+}
+
 static uint32_t write_message(const struct paper_message *m, uint8_t *out, size_t out_n)
 {
     uint8_t message[4099];

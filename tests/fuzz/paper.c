@@ -190,3 +190,53 @@ struct paper_tag paper_split(const uint8_t *packet, size_t n)
     }
     return t;
 }
+
+/* ------------------------------------------------------ document 02, order 1 */
+
+/* Takes so many bits, 32 at most, off the page. */
+static uint32_t take_bits(const uint8_t *page, size_t *bit, int width)
+{
+    uint32_t value = 0;
+
+    for (; width > 0; width--, ++*bit)
+        value = value << 1 | (page[*bit / 8] >> (7 - *bit % 8) & 1u);
+    return value;
+}
+
+/* Whether entry i may stand behind those before it: its place is higher than the last, its endpoint another. */
+static int in_order(const struct paper_page *p, uint32_t i)
+{
+    uint32_t j;
+
+    if (i > 0 && p->entries[i] / 2 <= p->entries[i - 1] / 2)
+        return 0;
+    for (j = 0; j < i; j++) {
+        if (p->endpoints[i] == p->endpoints[j])
+            return 0;
+    }
+    return 1;
+}
+
+struct paper_page paper_show(const uint8_t *page, size_t n)
+{
+    struct paper_page p;
+    size_t bit = 0;
+    uint32_t count, i;
+
+    memset(&p, 0, sizeof p);
+    p.count = REFUSAL(29);
+    if (n == 0)
+        return p;
+    count = take_bits(page, &bit, 6);
+    if (count > 32 || n != (6 + 38 * count + 7) / 8)
+        return p;
+    for (i = 0; i < count; i++) {
+        p.entries[i] = take_bits(page, &bit, 6);
+        p.endpoints[i] = take_bits(page, &bit, 32);
+        if (!in_order(&p, i))
+            return p;
+    }
+    if (take_bits(page, &bit, (int)(8 * n - bit)) == 0)
+        p.count = count;
+    return p;
+}

@@ -1,5 +1,6 @@
-/* The rules of document 01 for sorting, messages and the tag, in C, written from the papers alone. With coverage by the
- * fuzzer's compiler, which the library does not have, they also show it the way to new answers. */
+/* The rules of document 01 for sorting, messages and the tag, and of document 02 for the status page, in C, written from
+ * the papers alone. With coverage by the fuzzer's compiler, which the library does not have, they also show it the way
+ * to new answers. */
 #ifndef PAPER_H
 #define PAPER_H
 
@@ -26,6 +27,12 @@ struct paper_tag {
     uint32_t numbers[4];
 };
 
+struct paper_page {
+    answer count;
+    uint32_t entries[32];      /* twice the place, and 1 more where it is keyed */
+    uint32_t endpoints[32];
+};
+
 /* Fields of a message to be written: of type 1 the list, of type 3 MKI, keys and salts, of type 4 the DTLS octets. */
 struct paper_message {
     int type;
@@ -40,6 +47,7 @@ struct paper_message {
 answer paper_sort(const uint8_t *packet, size_t n);
 struct paper_reading paper_read(const uint8_t *octets, size_t n);
 struct paper_tag paper_split(const uint8_t *packet, size_t n);
+struct paper_page paper_show(const uint8_t *page, size_t n);
 /* Writes into out, which has room for 4,099 octets, what a call with an output of room octets must write. */
 answer paper_write(const struct paper_message *message, size_t room, uint8_t *out);
 

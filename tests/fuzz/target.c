@@ -1,5 +1,5 @@
 /* One input for the library, compared with paper.c. The first octet chooses the calls:
- *   0 sorting, reading and the tag, of the rest of the input
+ *   0 sorting, reading, the tag and the status page, of the rest of the input
  *   1 to 5 the writer of that type: see message_of below
  * Any other value is taken modulo 6. Each stretch is lent twice: ending at a closed page, and beginning behind one. */
 #include "paper.h"
@@ -66,7 +66,7 @@ static void unchanged(const uint8_t *lent, const uint8_t *octets, size_t n)
     AGREE("octets changed", n, n > 0 && memcmp(lent, octets, n) != 0, 0);
 }
 
-/* --------------------------------------------------- sorting, reading, tag */
+/* --------------------------------------------- sorting, reading, tag, page */
 
 /* All numbers that the interface knows, those around them, and some with the same low bits. */
 static const uint32_t asked[] = { 0,  1,  2,  3,  4,  5,  6,  7,  8,   9,     15,    16,          17,         18,
@@ -103,6 +103,23 @@ static void compare_tag(const uint8_t *packet, size_t n)
     }
 }
 
+/* The numbers of all entries and of one more, and some with the same low bits, or the same bits times 38. */
+static void compare_page(const uint8_t *page, size_t n)
+{
+    static const size_t beyond[] = { 33, 63, 256, 65536, (size_t)1 << 32, (size_t)1 << 63, SIZE_MAX / 38 + 1, SIZE_MAX };
+    struct paper_page p = paper_show(page, n);
+    size_t count = p.count >> 31 ? 0 : p.count, i;
+
+    AGREE("shawm_page_count", n, shawm_page_count(page, n), p.count);
+    for (i = 0; i <= count + sizeof beyond / sizeof beyond[0]; i++) {
+        size_t number = i <= count ? i : beyond[i - count - 1];
+        int there = number < count;
+
+        AGREE("shawm_page_entry", number, shawm_page_entry(page, n, number), there ? p.entries[number] : 0x8000001du);
+        AGREE("shawm_page_endpoint", number, shawm_page_endpoint(page, n, number), there ? p.endpoints[number] : 0);
+    }
+}
+
 static void compare_octets(const uint8_t *octets, size_t n)
 {
     const uint8_t *lent = lend(0, octets, n);
@@ -110,6 +127,7 @@ static void compare_octets(const uint8_t *octets, size_t n)
     AGREE("shawm_sort", n, shawm_sort(lent, n), paper_sort(octets, n));
     compare_reading(lent, n);
     compare_tag(lent, n);
+    compare_page(lent, n);
     unchanged(lent, octets, n);
 }
 

@@ -5,7 +5,7 @@ ghost use Rattle.rules.specs.Layout as Spec;
 ghost use Rattle.block.specs.RowPart.{RowPart};
 
 // Live associations at most.
-pub const PLACES: usize = 32;
+pub use status::PLACES;
 
 // Rounds of a search at most: one more than so many places can be halved.
 pub(crate) const ROUNDS: usize = 6;

@@ -2,3 +2,6 @@ pub mod CheckLaws
 pub mod ReceivingLaws
 pub mod RecordReads
 pub mod Sendable
+pub mod PackingLaws
+pub mod PageLaws
+pub mod EntryLaws

@@ -6,12 +6,14 @@ use mathlib.Core.List.{List, _++_}
 use mathlib.Core.Option.{Option, some, none}
 use lib.ListN.{length, drop}
 use lib.Dec.{eqb}
+use Rattle.status.specs.declared.entry.Entry.{Entry}
+use Rattle.status.specs.Page.{layout}
 use Rattle.rules.specs.Verdict.{Verdict, allowed, refusal}
 use Rattle.rules.specs.Refusals.{isProfiles}
 use Rattle.rules.specs.Call.{Call}
 use Rattle.rules.specs.Table.{answer, step}
 use Rattle.rules.specs.Answer as Answer
-use Rattle.rules.specs.Answer.{Answer, refused, moreNeeded, wrote, placed, ended, keysStored, delivery, removed, version}
+use Rattle.rules.specs.Answer.{Answer, refused, moreNeeded, wrote, placed, ended, keysStored, delivery, removed, version, page}
 use Rattle.distributor.specs.declared.check.Check.{Check}
 use Rattle.distributor.specs.declared.ending.Ended.{Ended}
 use Rattle.distributor.specs.declared.opening.Opened.{Opened}
@@ -51,6 +53,17 @@ pub record Wrote (a : Answer) (before after : List ℕ) (count : ℕ) : Type 0 w
 abbrev pub Sends : Answer → (before after : List ℕ) → Sent → Type 0
 Sends a before after (Sent.Refused number) = (a ≡ refused number 0) × (after ≡ before)
 Sends a before after (Sent.Written count) = Wrote a before after count
+
+-- the page with the answer's entries: it stands at the front of the output, and the octets behind are as they were
+pub record WrotePage (a : Answer) (before after : List ℕ) (count : ℕ) : Type 0 where
+  pub entries : List Entry
+  pub told : a ≡ page entries
+  pub counted : count ≡ length (layout entries)
+  pub written : after ≡ layout entries ++ drop (length (layout entries)) before
+
+abbrev pub Pages : Answer → (before after : List ℕ) → Sent → Type 0
+Pages a before after (Sent.Refused number) = (a ≡ refused number 0) × (after ≡ before)
+Pages a before after (Sent.Written count) = WrotePage a before after count
 
 -- ---- Tunnel octets; refusal 5 has a case of its own, and the other case of a refusal stands for no answer with that number
 

@@ -1,4 +1,4 @@
-// The seven calls exported for `make bench` and for nothing else: not the product's C interface.
+// The calls exported for `make bench` and for nothing else: not the product's C interface.
 // A refusal is its number plus 2^32; what an accepted call answers stands at each function.
 use distributor::BLOCK;
 use distributor::Ended;
@@ -100,6 +100,12 @@ pub extern "C" fn measure_octets(state: &mut [u8; BLOCK], s: &[u8], more: &mut [
 #[no_mangle]
 pub extern "C" fn measure_close(state: &mut [u8; BLOCK], identifier: &[u8], out: &mut [u8]) -> u64 {
     sent(distributor::close(state, identifier, out))
+}
+
+// The octets written.
+#[no_mangle]
+pub extern "C" fn measure_page(state: &[u8; BLOCK], out: &mut [u8]) -> u64 {
+    sent(distributor::write_page(state, out))
 }
 
 // 0.

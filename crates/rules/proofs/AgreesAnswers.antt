@@ -4,8 +4,12 @@ use mathlib.Core.Path.{_≡_, refl, sym, ap, _∙_}
 use mathlib.Core.Bool.{Bool, true, false, cond, not}
 use mathlib.Core.List.{List, []}
 use mathlib.Core.Option.{none}
-use lib.ListN.{getD, replicate}
+use lib.Dec.{ltb}
+use lib.ListN.{length, getD, replicate}
 use Rattle.octets.specs.Bounds.{partIn}
+use Rattle.status.specs.Bits.{octetsFor}
+use Rattle.status.specs.Limits.{pageBits}
+use Rattle.status.proofs.PageLaws.{layout-length}
 use Rattle.message.specs.Limits.{width}
 use Rattle.message.specs.Message.{tunneledDtls, endpointDisconnect}
 use Rattle.message.specs.Parts.{identifierBounds, dtlsBounds}
@@ -21,16 +25,17 @@ use Rattle.rules.specs.Verdict.{Verdict, allowed, refusal, refuse}
 use Rattle.rules.specs.Answer.{Association, Answer, refused, found, delivery, keysStored, removed, answered}
 use Rattle.rules.specs.Refusals.{wrongWidth, noRoom, notDtls, tooLong, startMessage, receiving}
 use Rattle.rules.specs.View.{AtPlace, View, identifierIn, endpointIn, isFor}
-use Rattle.rules.specs.Cards.{Held, blank, opened, keyed, Cards, filled, holding, endpointLive, allLive}
+use Rattle.rules.specs.Cards.{Held, blank, opened, keyed, Cards, filled, holding, live, endpointLive, allLive}
 use Rattle.rules.specs.CardAnswers as CardAnswers
 use Rattle.rules.specs.CardAnswers.{tunnelOn, identifierWith, associationOn, byCard, messageExpected, readExpected, expected}
 use Rattle.rules.specs.Claim.{exceptPlace}
-use Rattle.rules.specs.ViewSteps.{isServing, associationAt, firstWith, endpointFor, has, isDown, startVerdict, openVerdict, packetVerdict, closeVerdict, lookVerdict, keysVerdict, fieldsAnswer, readAnswer, viewAnswer}
+use Rattle.rules.specs.ViewSteps.{entriesIn, isServing, associationAt, firstWith, endpointFor, has, isDown, startVerdict, openVerdict, packetVerdict, closeVerdict, lookVerdict, pageVerdict, keysVerdict, fieldsAnswer, readAnswer, viewAnswer}
 use Rattle.rules.specs.Orders.{startOrder, openOrder, closeOrder, keysOrder}
 use Rattle.rules.proofs.KeepLaws.{first-found, first-none, first-kept, first-is}
 use Rattle.rules.proofs.ProfilesLaws.{expected-reads}
 use Rattle.rules.proofs.Agrees.{Agrees, placesOn}
 use Rattle.rules.proofs.AgreesSays.{known-is, serving-card, busy-is}
+use Rattle.rules.proofs.AgreesPages.{agrees-pages}
 use Rattle.rules.proofs.AgreesVerdicts.{up-is, open-is, close-is, keys-is}
 
 -- ---- answers, place numbers apart
@@ -117,6 +122,10 @@ module _ {v : View} {cards : Cards} (g : Agrees v cards) where
   unfolding lookVerdict
   look-expected e = rw (up-on, busy-is g e)
 
+  page-expected : (room : ℕ) → pageVerdict v room ≡ refuse (ltb room (octetsFor (pageBits (length (live cards))))) 13 allowed
+  unfolding pageVerdict
+  page-expected room = rw (layout-length (entriesIn v), agrees-pages v cards g .number)
+
   keys-expected : (i : List ℕ) (profile : ℕ) (k : KeyLengths)
       → keysVerdict v i profile k
       ≡ keysOrder (not (filled (cards .card i .held))) (not (inList profile (listIn (tunnelOn cards)))) (not (keysFit profile k)) (not (mkiAndSaltsFit k))
@@ -174,3 +183,4 @@ agrees-answer v cards g (Call.tunnelOctets octets) = except-cond (isUp (v .tunne
 agrees-answer v cards g (Call.close i room) = except-answered 0 _ (close-expected g i room)
 agrees-answer v cards g Call.end = except-cond (isUp (v .tunnel)) _ _ ∙ rw (up-on g)
 agrees-answer v cards g (Call.look e) = except-answered 0 _ (look-expected g e) ∙ found-live (CardAnswers.isDown cards) (endpointLive cards e) _ _ (served g e)
+agrees-answer v cards g (Call.writePage room) = except-answered 0 _ (page-expected g room)

@@ -15,7 +15,7 @@ use Rattle.message.specs.declared.bodies.Fields.the-variants.{SupportedProfiles
 use Rattle.rules.specs.Tunnel.{isUp, listIn}
 use Rattle.rules.specs.Call as Call
 use Rattle.rules.specs.Verdict.{Verdict, allowed, refusal, refuse}
-use Rattle.rules.specs.Answer.{Answer, refused, moreNeeded, wrote, placed, ended, found, keysStored, delivery, removed, version, answered}
+use Rattle.rules.specs.Answer.{Answer, refused, moreNeeded, wrote, placed, ended, found, keysStored, delivery, removed, version, page, answered}
 use Rattle.rules.specs.Refusals.{receiving}
 use Rattle.rules.specs.View.{View}
 use Rattle.rules.specs.Cards.{Held, blank, opened, keyed, Cards, filled}
@@ -41,6 +41,7 @@ handed-except octets (keysStored endpoint taken) = refl
 handed-except octets (delivery e dtls taken) = refl
 handed-except octets (removed endpoint taken) = refl
 handed-except octets (version number taken) = refl
+handed-except octets (page entries) = refl
 
 -- ---- by the answer that is expected, where the tunnel is up
 

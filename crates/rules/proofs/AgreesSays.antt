@@ -91,7 +91,7 @@ module _ {v : View} {cards : Cards} (g : Agrees v cards) where
       let f = live-filled i m in
       Memᴰ·cast (sym (card-on i (cards .card i .held) f .identifier)) (Memᴰ·map identifierIn (records-all (v .table) (in-table i f)))
 
-  live-count : length (live cards) ≡ length (records (v .table))
+  pub live-count : length (live cards) ≡ length (records (v .table))
   live-count =
       le-antisymm (distinct-le _ _ live-distinct live-records) (distinct-le _ _ identifiers-distinct records-live)
       ∙ length-map (records (v .table)) identifierIn

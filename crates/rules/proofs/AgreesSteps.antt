@@ -121,3 +121,4 @@ agrees-step v cards g (Call.tunnelOctets octets) = octets-step g octets
 agrees-step v cards g (Call.close i room) = close-step g i room
 agrees-step v cards g Call.end = end-step g
 agrees-step v cards g (Call.look e) = g
+agrees-step v cards g (Call.writePage room) = g

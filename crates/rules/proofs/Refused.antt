@@ -14,8 +14,8 @@ use Rattle.message.specs.declared.bodies.Fields.the-variants.{SupportedProfiles
 use Rattle.rules.specs.Call as Call
 use Rattle.rules.specs.Layout.{up, rowOf, endpointOf, downBlock, upBlock}
 use Rattle.rules.specs.Verdict.{Verdict, allowed, refusal, after}
-use Rattle.rules.specs.Answer.{Answer, refused, wrote, placed, ended, found, keysStored, delivery, removed, byAnswer, answered}
-use Rattle.rules.specs.Refusals.{wrongWidth, noRoom, notDtls, tooLong, startMessage, receiving}
+use Rattle.rules.specs.Answer.{Answer, refused, wrote, placed, ended, found, keysStored, delivery, removed, page, byAnswer, answered}
+use Rattle.rules.specs.Refusals.{wrongWidth, noRoom, noRoomForPage, notDtls, tooLong, startMessage, receiving}
 use Rattle.rules.specs.Table as Table
 use Rattle.rules.specs.Table.{answer, step, knows, serves, hasRoom, without, packetMessage}
 use Rattle.rules.specs.Unchanged.{RefusedKeeps, MoreNeededKeeps}
@@ -23,7 +23,7 @@ use Rattle.rules.proofs.VerdictLaws.{Avoids, avoids, keys-avoid}
 
 -- the block after a call, by its answer: of a refusal and of "more needed" it is settled
 abbrev leaves : Answer → (old new : List ℕ) → List ℕ
-leaves a old new = byAnswer (λ number taken. cond (eqb number 2) downBlock old) old (λ place. new) (λ endpoint dtls taken. new) (λ taken. new) a
+leaves a old new = byAnswer (λ number taken. cond (eqb number 2) downBlock old) old (λ place. new) (λ endpoint dtls taken. new) (λ entries. new) (λ taken. new) a
 
 module _ (s : List ℕ) where
   by-verdict : (v : Verdict) → Avoids 2 v → (taken : ℕ) (a : Answer) (new : List ℕ) → leaves a s new ≡ new
@@ -96,8 +96,12 @@ module _ (s : List ℕ) where
   unfolding Table.lookVerdict
   look-avoids e = avoids 2 (not (up s)) 1 _ refl (avoids 2 (not (serves s e)) 6 _ refl tt)
 
+  page-avoids : (room : ℕ) → Avoids 2 (Table.pageVerdict s room)
+  unfolding Table.pageVerdict
+  page-avoids room = avoids 2 (noRoomForPage (Table.pageEntries s) room) 13 _ refl tt
+
   left : (c : Call.Call) → leaves (answer s c) s (step s c) ≡ step s c
-  unfolding answer step Table.startAnswer Table.startNext Table.openAnswer Table.openNext Table.packetAnswer Table.closeAnswer Table.closeNext Table.endAnswer Table.endNext Table.lookAnswer Table.octetsAnswer Table.octetsNext
+  unfolding answer step Table.startAnswer Table.startNext Table.openAnswer Table.openNext Table.packetAnswer Table.closeAnswer Table.closeNext Table.endAnswer Table.endNext Table.lookAnswer Table.pageAnswer Table.octetsAnswer Table.octetsNext
   left (Call.start list room) = by-verdict (Table.startVerdict s list room) (start-avoids list room) 0 (wrote (encode (startMessage list))) (upBlock list) refl
   left (Call.opening i e) = by-verdict (Table.openVerdict s i e) (open-avoids i e) 0 (placed _) _ refl
   left (Call.boothPacket e packet room) = by-reading (Table.packetVerdict s e packet room) (packet-avoids e packet room) (wrote (encode (packetMessage s e packet))) refl
@@ -105,6 +109,7 @@ module _ (s : List ℕ) where
   left (Call.close i room) = by-verdict (Table.closeVerdict s i room) (close-avoids i room) 0 (wrote (encode (endpointDisconnect i))) (without s i) refl
   left Call.end = by-end (up s)
   left (Call.look e) = by-reading (Table.lookVerdict s e) (look-avoids e) (found (Table.associationOf (rowOf s (Table.placeOfEndpoint s e)))) refl
+  left (Call.writePage room) = by-reading (Table.pageVerdict s room) (page-avoids room) (page (Table.pageEntries s)) refl
 
 pub refused-keeps : (s : List ℕ) (c : Call.Call) → RefusedKeeps s c
 refused-keeps s c number taken e = sym (left s c) ∙ ap (λ (a : Answer). leaves a s (step s c)) e

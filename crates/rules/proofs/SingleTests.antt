@@ -1,5 +1,5 @@
 -- The single tests of Refusals say what they mean.
-use Prim.Native.Nat.{ℕ, _+_, _-_, _≤_, _<_}
+use Prim.Native.Nat.{ℕ, _+_, _*_, _-_, _/_, _≤_, _<_}
 use mathlib.Core.Path.{_≡_, refl, sym, ap, subst, _∙_}
 use mathlib.Core.Logic.{_↔_, _⊎_, inl, inr, ⊎-elim}
 use mathlib.Core.Bool.{true, false, not}
@@ -14,6 +14,9 @@ use Rattle.octets.proofs.Tests.{by-choice, false-true}
 use Rattle.octets.proofs.RangeLaws.{inside, below, above}
 use Rattle.demux.specs.Sorting as Sorting
 use Rattle.demux.specs.declared.sorting.Kind.{Kind}
+use Rattle.status.specs.declared.entry.Entry.{Entry}
+use Rattle.status.specs.Page.{layout}
+use Rattle.status.proofs.PageLaws.{layout-length}
 use Rattle.message.specs.Limits.{bodyLimit}
 use Rattle.message.specs.Message.{Message, tunneledDtls, endpointDisconnect, encodeBody, encode}
 use Rattle.message.specs.Write.{Answer, writing, refused, fitting}
@@ -97,21 +100,24 @@ module _ (i packet : List ℕ) (room : ℕ) (w : length i ≡ 16) (some : 1 ≤ 
 
 -- ---- 13
 
-room-means : (new : Message) (room : ℕ) {size : ℕ} → length (encode new) ≡ size → (Refusals.noRoom new room ≡ true) ↔ (room < size)
-room-means new room e =
-    (λ h. subst (λ (n : ℕ). room < n) e (ltb-true room (length (encode new)) h), λ h. lt-ltb room (length (encode new)) (subst (λ (n : ℕ). room < n) (sym e) h))
+room-means : (room needed : ℕ) {size : ℕ} → needed ≡ size → (ltb room needed ≡ true) ↔ (room < size)
+room-means room needed e =
+    (λ h. subst (λ (n : ℕ). room < n) e (ltb-true room needed h), λ h. lt-ltb room needed (subst (λ (n : ℕ). room < n) (sym e) h))
 
 start-room : (list : List ℕ) (room : ℕ) → (Refusals.noRoom (Refusals.startMessage list) room ≡ true) ↔ (room < 6 + length list)
 unfolding encode
-start-room list room = room-means (Refusals.startMessage list) room (omega arith)
+start-room list room = room-means room (length (encode (Refusals.startMessage list))) (omega arith)
 
 packet-room : (i packet : List ℕ) (room : ℕ) → length i ≡ 16 → (Refusals.noRoom (tunneledDtls i packet) room ≡ true) ↔ (room < 21 + length packet)
 unfolding encode
-packet-room i packet room w = room-means (tunneledDtls i packet) room (simp length-append (omega arith))
+packet-room i packet room w = room-means room (length (encode (tunneledDtls i packet))) (simp length-append (omega arith))
 
 close-room : (i : List ℕ) (room : ℕ) → length i ≡ 16 → (Refusals.noRoom (endpointDisconnect i) room ≡ true) ↔ (room < 19)
 unfolding encode
-close-room i room w = room-means (endpointDisconnect i) room (simp length-append (omega arith))
+close-room i room w = room-means room (length (encode (endpointDisconnect i))) (simp length-append (omega arith))
+
+page-room : (es : List Entry) (room : ℕ) → (Refusals.noRoomForPage es room ≡ true) ↔ (room < (6 + 38 * length es + 7) / 8)
+page-room es room = room-means room (length (layout es)) (layout-length es ∙ omega arith)
 
 -- ---- what is written
 
@@ -138,6 +144,7 @@ single-tests = record {
   startRoom = start-room;
   packetRoom = packet-room;
   closeRoom = close-room;
+  pageRoom = page-room;
   started = starts;
   sent = sends;
   closed = closes;

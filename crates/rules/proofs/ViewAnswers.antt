@@ -9,18 +9,19 @@ use Rattle.message.specs.Parts.{identifierBounds, dtlsBounds}
 use Rattle.message.specs.Read as Read
 use Rattle.message.specs.declared.bodies.Fields.{Fields}
 use Rattle.message.specs.declared.bodies.Fields.the-variants.{SupportedProfiles, UnsupportedVersion, MediaKeys, TunneledDtls, EndpointDisconnect}
-use Rattle.rules.specs.Call.{Call, start, opening, boothPacket, tunnelOctets, close, end, look}
+use Rattle.rules.specs.Call.{Call, start, opening, boothPacket, tunnelOctets, close, end, look, writePage}
 use Rattle.rules.specs.Layout.{up, rowOf}
 use Rattle.rules.specs.Answer.{Answer, refused, wrote, found, keysStored, delivery, removed}
 use Rattle.rules.specs.Refusals.{receiving}
-use Rattle.rules.specs.Table.{placeOfIdentifier, knows, endpointFor, keysVerdict, packetVerdict, lookVerdict, startAnswer, openAnswer, packetAnswer, closeAnswer, endAnswer, lookAnswer, fieldsAnswer, readAnswer, octetsAnswer, answer}
+use Rattle.rules.specs.Table.{placeOfIdentifier, knows, endpointFor, keysVerdict, packetVerdict, lookVerdict, startAnswer, openAnswer, packetAnswer, closeAnswer, endAnswer, lookAnswer, pageAnswer, fieldsAnswer, readAnswer, octetsAnswer, answer}
 use Rattle.rules.specs.View.{view, endpointIn}
 use Rattle.rules.specs.ViewSteps as Steps
 use Rattle.rules.specs.ViewSteps.{viewAnswer}
 use Rattle.rules.proofs.Legal.{Legal}
 use Rattle.rules.proofs.VerdictLaws.{answered-same, cond-same}
 use Rattle.rules.proofs.ViewTests.{view-up, view-vacant, view-knows, view-known, view-served, association-endpoint}
-use Rattle.rules.proofs.ViewVerdicts.{view-start-verdict, view-open-verdict, view-close-verdict, view-look-verdict, view-keys-verdict, view-packet-message, view-packet-verdict, packet-passed, look-passed, keys-passed}
+use Rattle.rules.proofs.ViewPages.{view-entries}
+use Rattle.rules.proofs.ViewVerdicts.{view-start-verdict, view-open-verdict, view-close-verdict, view-look-verdict, view-page-verdict, view-keys-verdict, view-packet-message, view-packet-verdict, packet-passed, look-passed, keys-passed}
 
 module _ (s : List ℕ) where
   endpoint-seen : (i : List ℕ) → knows s i ≡ true → endpointFor s i ≡ Steps.endpointFor (view s) i
@@ -47,7 +48,7 @@ module _ (s : List ℕ) where
   read-answer u octets (Read.accepted f taken) = fields-answer u octets f taken
 
   pub call-answer : Legal s → (c : Call) → answer s c ≡ viewAnswer (view s) c
-  unfolding answer viewAnswer startAnswer openAnswer packetAnswer octetsAnswer closeAnswer endAnswer lookAnswer
+  unfolding answer viewAnswer startAnswer openAnswer packetAnswer octetsAnswer closeAnswer endAnswer lookAnswer pageAnswer
   call-answer l (start list room) = rw (view-start-verdict s list room)
   call-answer l (opening i e) = rw (view-open-verdict s l i e, view-vacant s)
   call-answer l (boothPacket e packet room) =
@@ -59,3 +60,4 @@ module _ (s : List ℕ) where
   call-answer l end = rw (view-up s)
   call-answer l (look e) =
       rw (view-look-verdict s l e) (answered-same (lookVerdict s e) 0 (λ h. ap found (sym (view-served s l e (look-passed s e h)))))
+  call-answer l (writePage room) = rw (view-page-verdict s room, view-entries s)

@@ -15,7 +15,7 @@ use Rattle.message.specs.declared.bodies.Fields.the-variants.{SupportedProfiles
 use Rattle.message.specs.declared.bodies.KeyLengths.{KeyLengths}
 use Rattle.rules.specs.Limits.{places}
 use Rattle.rules.specs.Keys.{Keys, keysIn}
-use Rattle.rules.specs.Call.{Call, start, opening, boothPacket, tunnelOctets, close, end, look}
+use Rattle.rules.specs.Call.{Call, start, opening, boothPacket, tunnelOctets, close, end, look, writePage}
 use Rattle.rules.specs.Layout.{up, rows, rowOf, live, vacant, serving, identifierOf, endpointOf, rowLength, vacantRow, openRow, keyedRow, withRow}
 use Rattle.rules.specs.Search as Search
 use Rattle.rules.proofs.Entries as Entries
@@ -158,3 +158,4 @@ module _ (s : List ℕ) (l : Legal s) where
   step-seen (close i room) = close-seen i room
   step-seen end = end-seen
   step-seen (look e) = as-it-is s l
+  step-seen (writePage room) = as-it-is s l

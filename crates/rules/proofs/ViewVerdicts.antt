@@ -13,7 +13,7 @@ use Rattle.rules.specs.Layout.{up, listOf, rowOf}
 use Rattle.rules.specs.Verdict.{allowed}
 use Rattle.rules.specs.Orders.{packetOrder}
 use Rattle.rules.specs.Refusals.{wrongWidth, noRoom, notDtls, tooLong}
-use Rattle.rules.specs.Table.{placeOfEndpoint, knows, serves, hasRoom, startVerdict, openVerdict, packetMessage, packetVerdict, closeVerdict, lookVerdict, keysVerdict}
+use Rattle.rules.specs.Table.{placeOfEndpoint, knows, serves, hasRoom, startVerdict, openVerdict, packetMessage, packetVerdict, closeVerdict, lookVerdict, pageVerdict, keysVerdict}
 use Rattle.rules.specs.Tunnel.{listIn}
 use Rattle.rules.specs.View.{view, identifierIn}
 use Rattle.rules.specs.ViewSteps as Steps
@@ -21,6 +21,7 @@ use Rattle.rules.proofs.Legal.{Legal}
 use Rattle.rules.proofs.TunnelLaws.{tunnel-list}
 use Rattle.rules.proofs.VerdictLaws.{passed}
 use Rattle.rules.proofs.ViewTests.{view-up, view-knows, view-serves, view-room, view-served, association-identifier}
+use Rattle.rules.proofs.ViewPages.{view-entries}
 
 -- ---- the same verdicts
 
@@ -40,6 +41,10 @@ module _ (s : List ℕ) where
   pub view-look-verdict : Legal s → (e : ℕ) → Steps.lookVerdict (view s) e ≡ lookVerdict s e
   unfolding Steps.lookVerdict lookVerdict
   view-look-verdict l e = rw (view-up s, view-serves s l e)
+
+  pub view-page-verdict : (room : ℕ) → Steps.pageVerdict (view s) room ≡ pageVerdict s room
+  unfolding Steps.pageVerdict pageVerdict
+  view-page-verdict room = rw (view-entries s)
 
   view-list : up s ≡ true → listIn (view s .tunnel) ≡ listOf s
   unfolding view

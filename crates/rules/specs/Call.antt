@@ -1,4 +1,4 @@
--- The seven calls of document 01 ("The record and its calls"): their arguments, and the lengths of their lent outputs.
+-- The calls: document 01's seven ("The record and its calls") and the page of document 02, order 1. Their arguments, and the lengths of their lent outputs.
 use Prim.Native.Nat.{ℕ}
 use mathlib.Core.List.{List}
 
@@ -10,3 +10,4 @@ pub data Call : Type 0 where
   close : (identifier : List ℕ) (room : ℕ) → Call
   end : Call
   look : (endpoint : ℕ) → Call
+  writePage : (room : ℕ) → Call

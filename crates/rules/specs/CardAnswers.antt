@@ -1,9 +1,12 @@
--- What the cards say of each call's answer, place numbers apart: document 01, "What the proof has to say" and "The record and its calls". Nothing here names the table.
+-- What the cards say of each call's answer, place numbers and a page's entries apart: document 01, "What the proof has to say" and "The record and its calls"; document 02, order 1. Nothing here names the table.
 use Prim.Native.Nat.{ℕ, _+_}
 use mathlib.Core.Bool.{Bool, cond, not}
 use mathlib.Core.List.{List, [], _∷_}
-use lib.ListN.{getD, replicate}
+use lib.Dec.{ltb}
+use lib.ListN.{length, getD, replicate}
 use Rattle.octets.specs.Bounds.{partIn}
+use Rattle.status.specs.Bits.{octetsFor}
+use Rattle.status.specs.Limits.{pageBits}
 use Rattle.message.specs.Frame as Frame
 use Rattle.message.specs.Limits.{width, header}
 use Rattle.message.specs.Message.{encode, tunneledDtls, endpointDisconnect}
@@ -18,9 +21,9 @@ use Rattle.rules.specs.Tunnel.{Tunnel, isUp, listIn}
 use Rattle.rules.specs.Call as Call
 use Rattle.rules.specs.Verdict.{allowed, refuse}
 use Rattle.rules.specs.Answer as Answer
-use Rattle.rules.specs.Answer.{Answer, Association, refused, moreNeeded, wrote, placed, ended, found, keysStored, delivery, removed, version, answered}
+use Rattle.rules.specs.Answer.{Answer, Association, refused, moreNeeded, wrote, placed, ended, found, keysStored, delivery, removed, version, page, answered}
 use Rattle.rules.specs.Refusals.{wrongWidth, noRoom, notDtls, tooLong, startMessage, isProfiles}
-use Rattle.rules.specs.Cards.{Held, blank, opened, keyed, Cards, filled, holding, endpointLive, allLive, next}
+use Rattle.rules.specs.Cards.{Held, blank, opened, keyed, Cards, filled, holding, live, endpointLive, allLive, next}
 
 -- every card keeps the tunnel, so any will do
 abbrev pub tunnelOn : Cards → Tunnel
@@ -79,6 +82,10 @@ lookExpected cards endpoint =
     answered (refuse (isDown cards) 1 (refuse (not (endpointLive cards endpoint)) 6 allowed)) 0
     (found (associationOn (identifierWith cards endpoint) (cards .card (identifierWith cards endpoint) .held)))
 
+-- Write page: 13 by the number of filled cards, whatever the tunnel. The entries have places, which no card knows: PagesByCards.antt says what the cards expect of them
+abbrev pub pageExpected : Cards → (room : ℕ) → Answer
+pageExpected cards room = answered (refuse (ltb room (octetsFor (pageBits (length (live cards))))) 13 allowed) 0 (page [])
+
 -- the answer to a message that names an identifier goes by the endpoint on its card; 6 where that is blank
 abbrev pub byCard : (held : Held) (taken : ℕ) (answer : (endpoint : ℕ) → Answer) → Answer
 byCard blank taken a = refused 6 taken
@@ -118,6 +125,7 @@ expected cards (Call.tunnelOctets octets) = cond (isUp (tunnelOn cards)) (octets
 expected cards (Call.close identifier room) = closeExpected cards identifier room
 expected cards Call.end = cond (isUp (tunnelOn cards)) ended (refused 1 0)
 expected cards (Call.look endpoint) = lookExpected cards endpoint
+expected cards (Call.writePage room) = pageExpected cards room
 
 unfoldable pub expectedAnswers : Cards → List Call.Call → List Answer
 expectedAnswers cards [] = []

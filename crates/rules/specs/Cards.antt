@@ -117,6 +117,7 @@ cardNext cards (Call.tunnelOctets octets) i = octetsCard (cards .card i) octets 
 cardNext cards (Call.close identifier room) i = closeCard (cards .card i) identifier room i
 cardNext cards Call.end i = downCard
 cardNext cards (Call.look endpoint) i = cards .card i
+cardNext cards (Call.writePage room) i = cards .card i
 
 -- ---- every card, and the identifiers that openings have named
 
@@ -131,6 +132,7 @@ openingNext is (Call.tunnelOctets octets) = is
 openingNext is (Call.close identifier room) = is
 openingNext is Call.end = is
 openingNext is (Call.look endpoint) = is
+openingNext is (Call.writePage room) = is
 
 unfoldable pub next : Cards → Call.Call → Cards
 next cards c = record { card = cardNext cards c; opening = openingNext (cards .opening) c }

@@ -1,4 +1,4 @@
--- The claim about every list of calls (demand 3): the block that it leads to, and every answer on the way, are what the cards say, and openings take the lowest free place.
+-- The claim about every list of calls (demand 3): the block that it leads to, and every answer on the way, are what the cards say, openings take the lowest free place, and pages show the filled cards.
 use Prim.Native.Nat.{ℕ, _≤_}
 use mathlib.Core.Path.{_≡_}
 use mathlib.Core.Logic.{_↔_}
@@ -16,7 +16,7 @@ use Rattle.rules.specs.Search.{keep, Distinct}
 use Rattle.rules.specs.Tunnel.{isUp}
 use Rattle.rules.specs.Call as Call
 use Rattle.rules.specs.Answer as Answer
-use Rattle.rules.specs.Answer.{Answer, Association, refused, moreNeeded, placed, delivery, byAnswer, ofDelivery}
+use Rattle.rules.specs.Answer.{Answer, Association, refused, moreNeeded, placed, delivery, page, byAnswer, ofDelivery}
 use Rattle.rules.specs.Layout.{downBlock}
 use Rattle.rules.specs.Table.{run, answer, answers, step}
 use Rattle.rules.specs.View.{AtPlace, View, view, isFor, identifierIn, endpointIn}
@@ -24,6 +24,7 @@ use Rattle.rules.specs.Cards as Cards
 use Rattle.rules.specs.Cards.{Held, blank, opened, keyed, filled, live, fed}
 use Rattle.rules.specs.CardAnswers.{expectedAnswers}
 use Rattle.rules.specs.Placed.{Openings}
+use Rattle.rules.specs.PagesByCards.{Pages}
 
 -- ---- a record and a card
 
@@ -49,9 +50,9 @@ heldOn (keyed endpoint k) = keyed endpoint k ∷ []
 
 -- ---- answers
 
--- an answer, except for its place number
+-- an answer, except for an opening's place and a page's entries, of which `openings` and `pages` below speak
 abbrev pub exceptPlace : Answer → Answer
-exceptPlace a = byAnswer refused moreNeeded (λ place. placed 0) delivery (λ taken. a) a
+exceptPlace a = byAnswer refused moreNeeded (λ place. placed 0) delivery (λ entries. page []) (λ taken. a) a
 
 -- what a call hands out: DTLS octets with an endpoint, or nothing
 pub data Handed : Type 0 where
@@ -70,6 +71,7 @@ handout s (Call.tunnelOctets octets) = handedBy octets (answer s (Call.tunnelOct
 handout s (Call.close identifier room) = nothing
 handout s Call.end = nothing
 handout s (Call.look endpoint) = nothing
+handout s (Call.writePage room) = nothing
 
 -- by the cards: an accepted type 4's DTLS octets, with the endpoint on the card of its identifier at that call; while the tunnel is down every card is blank
 abbrev pub handedOn : Held → List ℕ → Handed
@@ -97,6 +99,7 @@ expectedHandout cards (Call.tunnelOctets octets) = handedRead cards octets (Read
 expectedHandout cards (Call.close identifier room) = nothing
 expectedHandout cards Call.end = nothing
 expectedHandout cards (Call.look endpoint) = nothing
+expectedHandout cards (Call.writePage room) = nothing
 
 unfoldable pub handouts : List ℕ → List Call.Call → List Handed
 handouts s [] = []
@@ -131,7 +134,9 @@ pub record Claim (calls : List Call.Call) : Type 0 where
   pub state : AsCards (view (run downBlock calls)) (fed Cards.first calls)
   -- "for each accepted type 4 in the list, the octets handed out are its DTLS octets, and the endpoint is the one on the card of its identifier at that call"
   pub deliveries : handouts downBlock calls ≡ expectedHandouts Cards.first calls
-  -- beyond document 01: every answer, place numbers apart, is the one that the cards give
+  -- beyond document 01: every answer, place numbers and a page's entries apart, is the one that the cards give
   pub answered : map exceptPlace (answers downBlock calls) ≡ expectedAnswers Cards.first calls
   -- "takes the lowest free place, so a freed place is used again": for each opening in the list that is answered with a place, in the table that the calls before it led to
   pub openings : Openings downBlock calls
+  -- document 02, order 1: each page in the list shows the filled cards at that call, each once, and of each, beside its place, its state and its endpoint alone
+  pub pages : Pages downBlock Cards.first calls

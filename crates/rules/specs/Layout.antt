@@ -86,6 +86,9 @@ rows s = chunks places rowLength s
 unfoldable pub rowOf : List ℕ → (place : ℕ) → List ℕ
 rowOf s place = getD (rows s) place []
 
+abbrev pub stateOf : List ℕ → ℕ
+stateOf r = octetAt r stateAt
+
 unfoldable pub live : List ℕ → Bool
 live r = not (eqb (octetAt r stateAt) 0)
 

@@ -19,6 +19,9 @@ pub mod Cards
 pub mod CardAnswers
 pub mod Placed
 pub mod Taken
+pub mod PagesByCards
 pub mod Claim
 pub mod ViewSteps
 pub mod Lookup
+pub mod Reaching
+pub mod Pages

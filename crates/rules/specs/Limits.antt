@@ -1,10 +1,11 @@
 -- The table's limits by name; those of messages are the message crate's.
 use Prim.Native.Nat.{ℕ, _+_, _-_}
 use Rattle.message.specs.Limits.{width, bodyLimit}
+use Rattle.status.specs.Limits as Status
 
 -- live associations at most: the request
 abbrev pub places : ℕ
-places = 32
+places = Status.places
 
 -- rounds of a search at most: one more than so many places can be halved; document 02, order 2
 abbrev pub rounds : ℕ

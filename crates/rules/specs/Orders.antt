@@ -1,4 +1,4 @@
--- The order of each call's refusals where it has several, over its tests: document 01, "The record and its calls". The earliest whose test holds is given. The 1 of End and of Tunnel octets and the 6 of types 4 and 5 stand in Table.
+-- The order of each call's refusals, over its tests: document 01, "The record and its calls"; document 02, order 1. The earliest whose test holds is given. The 1 of End and of Tunnel octets and the 6 of types 4 and 5 stand in Table.
 use mathlib.Core.Bool.{Bool}
 use Rattle.rules.specs.Verdict.{Verdict, allowed, refuse}
 
@@ -24,6 +24,10 @@ keysOrder unknown notInList keysUnfit mkiOrSaltsUnfit =
 -- Close: 1, 20, 6, 13
 abbrev pub closeOrder : (down wrongWidth unknown noRoom : Bool) → Verdict
 closeOrder down wrongWidth unknown noRoom = refuse down 1 (refuse wrongWidth 20 (refuse unknown 6 (refuse noRoom 13 allowed)))
+
+-- Write page: 13 (document 02, order 1)
+abbrev pub pageOrder : (noRoom : Bool) → Verdict
+pageOrder noRoom = refuse noRoom 13 allowed
 
 -- Look: 1, 6
 abbrev pub lookOrder : (down unserved : Bool) → Verdict

@@ -1,11 +1,13 @@
--- The single tests that refusals go by, of the arguments alone, and the messages that calls write: document 01, "Refusal numbers" and "The record and its calls".
-use Prim.Native.Nat.{ℕ, _+_}
+-- The single tests that refusals go by, of the arguments alone, and the messages that calls write: document 01, "Refusal numbers" and "The record and its calls"; document 02, order 1.
+use Prim.Native.Nat.{ℕ}
 use mathlib.Core.Bool.{Bool, true, false, not}
 use mathlib.Core.List.{List}
 use lib.ListN.{length}
 use lib.Dec.{ltb, eqb}
 use Rattle.demux.specs.Sorting as Sorting
 use Rattle.demux.specs.declared.sorting.Kind.{Kind}
+use Rattle.status.specs.declared.entry.Entry.{Entry}
+use Rattle.status.specs.Page.{layout}
 use Rattle.message.specs.Limits.{width}
 use Rattle.message.specs.Message.{Message, supportedProfiles, encode}
 use Rattle.message.specs.Frame as Frame
@@ -21,6 +23,9 @@ wrongWidth identifier = not (eqb (length identifier) width)
 -- 13: by the encoding of what must be written
 abbrev pub noRoom : Message → (room : ℕ) → Bool
 noRoom m room = ltb room (length (encode m))
+
+abbrev pub noRoomForPage : (entries : List Entry) (room : ℕ) → Bool
+noRoomForPage entries room = ltb room (length (layout entries))
 
 -- 14: the packet is empty or not DTLS
 abbrev pub isDtlsKind : Kind → Bool

@@ -1,11 +1,12 @@
--- The single tests of Refusals, good lists, the messages that calls write and the number of places, in other words, with the numbers of the request and of document 01 ("Sorting a packet", "Tunnel messages", "Refusal numbers"): what the theorems in proofs/ say of them.
-use Prim.Native.Nat.{ℕ, _+_, _-_, _≤_, _<_}
+-- The single tests of Refusals, good lists, the messages that calls write and the number of places, in other words, with the numbers of the request, of document 01 ("Sorting a packet", "Tunnel messages", "Refusal numbers") and of document 02, order 1: what the theorems in proofs/ say of them.
+use Prim.Native.Nat.{ℕ, _+_, _*_, _-_, _/_, _≤_, _<_}
 use mathlib.Core.Path.{_≡_}
 use mathlib.Core.Logic.{_↔_, _⊎_}
 use mathlib.Core.Bool.{true}
 use mathlib.Core.List.{List, [], _∷_, _++_}
 use lib.ListN.{length}
 use Rattle.octets.specs.Number.{octetAt, octets16}
+use Rattle.status.specs.declared.entry.Entry.{Entry}
 use Rattle.message.specs.Message.{tunneledDtls, endpointDisconnect, encode}
 use Rattle.message.specs.Profiles as Profiles
 use Rattle.message.specs.Write.{writing, refused}
@@ -37,6 +38,8 @@ pub record SingleTests : Type 0 where
       → (Refusals.noRoom (tunneledDtls identifier packet) room ≡ true) ↔ (room < 21 + length packet)
   pub closeRoom : (identifier : List ℕ) (room : ℕ) → length identifier ≡ 16
       → (Refusals.noRoom (endpointDisconnect identifier) room ≡ true) ↔ (room < 19)
+  -- and of a page: 6 bits and 38 for each entry, in whole octets
+  pub pageRoom : (entries : List Entry) (room : ℕ) → (Refusals.noRoomForPage entries room ≡ true) ↔ (room < (6 + 38 * length entries + 7) / 8)
   -- what Start writes: type 1, the body's length, version 0, the list behind its length
   pub started : (list : List ℕ)
       → encode (Refusals.startMessage list) ≡ (1 ∷ octets16 (3 + length list)) ++ (0 ∷ octets16 (length list)) ++ list

@@ -1,8 +1,9 @@
--- What each call answers and makes of the block, octet by octet: document 01, "The record and its calls".
+-- What each call answers and makes of the block, octet by octet: document 01, "The record and its calls"; the page: document 02, order 1.
 use Prim.Native.Nat.{ℕ}
 use mathlib.Core.Bool.{Bool, cond, not}
-use mathlib.Core.List.{List, [], _∷_}
+use mathlib.Core.List.{List, [], _∷_, map}
 use lib.Dec.{ltb, eqb}
+use lib.ListN.{replicate}
 use Rattle.octets.specs.Bounds.{partIn}
 use Rattle.message.specs.Message.{Message, tunneledDtls, endpointDisconnect, encode}
 use Rattle.message.specs.Parts.{identifierBounds, dtlsBounds}
@@ -15,13 +16,16 @@ use Rattle.rules.specs.Limits.{places}
 use Rattle.rules.specs.Search.{first}
 use Rattle.rules.specs.Keys.{keysIn}
 use Rattle.rules.specs.Call as Call
-use Rattle.rules.specs.Layout.{up, listOf, rows, rowOf, identifierOf, endpointOf, keysOf, named, vacant, stateAt, vacantRow, openRow, keyedRow, withRow, downBlock, upBlock}
+use Rattle.rules.specs.Layout.{up, listOf, rows, rowOf, stateOf, identifierOf, endpointOf, keysOf, named, vacant, stateAt, vacantRow, openRow, keyedRow, withRow, downBlock, upBlock}
 use Rattle.rules.specs.Index.{spot, placeAtSpot, withEntry, withoutEntry}
 use Rattle.rules.specs.Verdict.{Verdict, after}
-use Rattle.rules.specs.Orders.{startOrder, openOrder, packetOrder, keysOrder, closeOrder, lookOrder}
-use Rattle.rules.specs.Answer.{Association, opened, keyed, Answer, refused, moreNeeded, wrote, placed, ended, found, keysStored, delivery, removed, version, answered}
-use Rattle.rules.specs.Refusals.{wrongWidth, noRoom, notDtls, tooLong, startMessage, receiving}
+use Rattle.rules.specs.Orders.{startOrder, openOrder, packetOrder, keysOrder, closeOrder, lookOrder, pageOrder}
+use Rattle.rules.specs.Answer.{Association, opened, keyed, Answer, refused, moreNeeded, wrote, placed, ended, found, keysStored, delivery, removed, version, page, answered}
+use Rattle.rules.specs.Refusals.{wrongWidth, noRoom, noRoomForPage, notDtls, tooLong, startMessage, receiving}
 use Rattle.octets.specs.Number.{octetAt}
+use Rattle.status.specs.declared.entry.Entry.{Entry}
+use Rattle.status.specs.Places as Places
+use Rattle.status.specs.Places.{Shown, entriesOf, shownAs}
 
 -- ---- searching; a place that is not there is the number of places
 
@@ -114,6 +118,25 @@ lookVerdict s endpoint = lookOrder (not (up s)) (not (serves s endpoint))
 unfoldable pub lookAnswer : (block : List ℕ) (endpoint : ℕ) → Answer
 lookAnswer s endpoint = answered (lookVerdict s endpoint) 0 (found (associationOf (rowOf s (placeOfEndpoint s endpoint))))
 
+-- ---- Write page: 13 (document 02, order 1)
+
+-- what a row shows: its state and its endpoint, and nothing else of it
+abbrev pub shownIn : (row : List ℕ) → Shown
+shownIn r = shownAs (stateOf r) (endpointOf r)
+
+-- "a down tunnel shows zero": no place is live
+unfoldable pub shown : (block : List ℕ) → List Shown
+shown s = cond (up s) (map shownIn (rows s)) (replicate places Places.vacant)
+
+abbrev pub pageEntries : (block : List ℕ) → List Entry
+pageEntries s = entriesOf (shown s)
+
+unfoldable pub pageVerdict : (block : List ℕ) (room : ℕ) → Verdict
+pageVerdict s room = pageOrder (noRoomForPage (pageEntries s) room)
+
+unfoldable pub pageAnswer : (block : List ℕ) (room : ℕ) → Answer
+pageAnswer s room = answered (pageVerdict s room) 0 (page (pageEntries s))
+
 -- ---- Tunnel octets: 1, then the reading; type 3: 6, 7, 8, 9; types 4 and 5: 6
 
 unfoldable pub keysVerdict : (block identifier : List ℕ) (profile : ℕ) → KeyLengths → Verdict
@@ -175,6 +198,7 @@ answer s (Call.tunnelOctets octets) = octetsAnswer s octets
 answer s (Call.close identifier room) = closeAnswer s identifier room
 answer s Call.end = endAnswer s
 answer s (Call.look endpoint) = lookAnswer s endpoint
+answer s (Call.writePage room) = pageAnswer s room
 
 unfoldable pub step : (block : List ℕ) → Call.Call → List ℕ
 step s (Call.start list room) = startNext s list room
@@ -184,6 +208,7 @@ step s (Call.tunnelOctets octets) = octetsNext s octets
 step s (Call.close identifier room) = closeNext s identifier room
 step s Call.end = endNext s
 step s (Call.look endpoint) = s
+step s (Call.writePage room) = s
 
 unfoldable pub run : (block : List ℕ) (calls : List Call.Call) → List ℕ
 run s [] = s

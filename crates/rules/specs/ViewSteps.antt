@@ -1,11 +1,13 @@
 -- The calls on the view: what each answers and makes of tunnel and table, record by record. A search goes from the lowest place on.
 use Prim.Native.Nat.{ℕ}
 use mathlib.Core.Bool.{Bool, true, false, cond, not}
-use mathlib.Core.List.{List, [], _∷_}
+use mathlib.Core.List.{List, [], _∷_, map}
 use mathlib.Core.Option.{some, none}
 use lib.Dec.{eqb}
 use lib.ListN.{getD, set, replicate}
 use Rattle.octets.specs.Bounds.{partIn}
+use Rattle.status.specs.declared.entry.Entry.{Entry}
+use Rattle.status.specs.Places.{Shown, vacant, live, entriesOf}
 use Rattle.message.specs.Message.{Message, tunneledDtls, endpointDisconnect, encode}
 use Rattle.message.specs.Parts.{identifierBounds, dtlsBounds}
 use Rattle.message.specs.Profiles.{goodList, inList, keysFit, mkiAndSaltsFit}
@@ -19,10 +21,10 @@ use Rattle.rules.specs.Keys.{Keys, keysIn}
 use Rattle.rules.specs.Tunnel.{down, upWith, isUp, listIn}
 use Rattle.rules.specs.Call as Call
 use Rattle.rules.specs.Verdict.{Verdict, after}
-use Rattle.rules.specs.Orders.{startOrder, openOrder, packetOrder, keysOrder, closeOrder, lookOrder}
+use Rattle.rules.specs.Orders.{startOrder, openOrder, packetOrder, keysOrder, closeOrder, lookOrder, pageOrder}
 use Rattle.rules.specs.Answer as Answer
-use Rattle.rules.specs.Answer.{Association, Answer, refused, moreNeeded, wrote, placed, ended, found, keysStored, delivery, removed, version, answered}
-use Rattle.rules.specs.Refusals.{wrongWidth, noRoom, notDtls, tooLong, startMessage, receiving}
+use Rattle.rules.specs.Answer.{Association, Answer, refused, moreNeeded, wrote, placed, ended, found, keysStored, delivery, removed, version, page, answered}
+use Rattle.rules.specs.Refusals.{wrongWidth, noRoom, noRoomForPage, notDtls, tooLong, startMessage, receiving}
 use Rattle.rules.specs.View.{AtPlace, View, identifierIn, endpointIn, isFor}
 
 -- ---- what stands at a place
@@ -48,6 +50,18 @@ setFirst p x v = record { tunnel = v .tunnel; table = set (v .table) (Search.fir
 
 abbrev pub has : (test : AtPlace → Bool) → View → Bool
 has p v = Search.someOf p (v .table)
+
+-- what the page shows of a place: open or keyed, and the endpoint
+abbrev pub shownAt : AtPlace → Shown
+shownAt none = vacant
+shownAt (some (Answer.opened i e)) = live false e
+shownAt (some (Answer.keyed i e k)) = live true e
+
+abbrev pub shownOf : View → List Shown
+shownOf v = cond (isUp (v .tunnel)) (map shownAt (v .table)) (replicate places vacant)
+
+abbrev pub entriesIn : View → List Entry
+entriesIn v = entriesOf (shownOf v)
 
 -- all key fields replaced
 abbrev pub rekey : Keys → Association → Association
@@ -83,6 +97,9 @@ closeVerdict v i room = closeOrder (isDown v) (wrongWidth i) (not (has (isFor i)
 
 unfoldable pub lookVerdict : View → (endpoint : ℕ) → Verdict
 lookVerdict v e = lookOrder (isDown v) (not (has (isServing e) v))
+
+unfoldable pub pageVerdict : View → (room : ℕ) → Verdict
+pageVerdict v room = pageOrder (noRoomForPage (entriesIn v) room)
 
 unfoldable pub keysVerdict : View → (identifier : List ℕ) (profile : ℕ) → KeyLengths → Verdict
 keysVerdict v i profile k =
@@ -130,6 +147,7 @@ viewAnswer v (Call.tunnelOctets octets) = cond (isUp (v .tunnel)) (readAnswer v 
 viewAnswer v (Call.close i room) = answered (closeVerdict v i room) 0 (wrote (encode (endpointDisconnect i)))
 viewAnswer v Call.end = cond (isUp (v .tunnel)) ended (refused 1 0)
 viewAnswer v (Call.look e) = answered (lookVerdict v e) 0 (found (firstWith (isServing e) v))
+viewAnswer v (Call.writePage room) = answered (pageVerdict v room) 0 (page (entriesIn v))
 
 unfoldable pub viewStep : View → Call.Call → View
 viewStep v (Call.start list room) = after (startVerdict v list room) (upView list) v
@@ -139,6 +157,7 @@ viewStep v (Call.tunnelOctets octets) = cond (isUp (v .tunnel)) (readNext v octe
 viewStep v (Call.close i room) = after (closeVerdict v i room) (setFirst (isFor i) none v) v
 viewStep v Call.end = cond (isUp (v .tunnel)) downView v
 viewStep v (Call.look e) = v
+viewStep v (Call.writePage room) = v
 
 -- ---- a list of calls
 

@@ -7,3 +7,4 @@ pub mod WritingLaws
 pub mod TunnelLaws
 pub mod Served
 pub mod Numbers
+pub mod Room

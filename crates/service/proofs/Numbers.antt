@@ -23,7 +23,7 @@ use Rattle.rules.specs.Call as Call
 use Rattle.rules.specs.Layout.{up, rows, vacant}
 use Rattle.rules.specs.Refusals.{received, receiving}
 use Rattle.rules.specs.Search.{first}
-use Rattle.rules.specs.Table.{answer, startVerdict, startAnswer, vacantPlace, openVerdict, openAnswer, packetVerdict, packetAnswer, closeVerdict, closeAnswer, endAnswer, lookVerdict, lookAnswer, knows, keysVerdict, fieldsAnswer, readAnswer, octetsAnswer}
+use Rattle.rules.specs.Table.{answer, startVerdict, startAnswer, vacantPlace, openVerdict, openAnswer, packetVerdict, packetAnswer, closeVerdict, closeAnswer, endAnswer, lookVerdict, lookAnswer, pageVerdict, pageAnswer, knows, keysVerdict, fieldsAnswer, readAnswer, octetsAnswer}
 use Rattle.rules.specs.Verdict.{Verdict, allowed, refusal}
 use Rattle.rules.proofs.RowsLaws.{rows-length}
 use Rattle.service.specs.Limits.{endpointLength, room, frameLimit}
@@ -31,7 +31,7 @@ use Rattle.service.specs.Numbers.{numberIn, numbers16, NumbersWhole}
 use Rattle.service.specs.Reply.{lentTo}
 use Rattle.service.specs.Request.{call, misshapen, kindOf, behindEndpoint, endpointIn, requestBy, requestOf}
 use Rattle.service.specs.declared.kind.Kind.{Kind}
-use Rattle.service.specs.declared.kind.Kind.the-variants.{Start, Open, BoothPacket, TunnelOctets, Close, End, Look, Unknown}
+use Rattle.service.specs.declared.kind.Kind.the-variants.{Start, Open, BoothPacket, TunnelOctets, Close, End, Look, WritePage, Unknown}
 
 -- places and octets taken are no more than the octets of the longest message
 abbrev Small : Answer → Type 0
@@ -124,7 +124,7 @@ module _ (s octets : List ℕ) (short : length octets ≤ room) where
 
 module _ (s : List ℕ) where
   of-call : (c : Call.Call) → length (lentTo c) ≤ room → Small (answer s c)
-  unfolding answer startAnswer openAnswer packetAnswer closeAnswer endAnswer lookAnswer
+  unfolding answer startAnswer openAnswer packetAnswer closeAnswer endAnswer lookAnswer pageAnswer
   of-call (Call.start list size) h = of-verdict (startVerdict s list size) 0 _ none none
   of-call (Call.opening identifier endpoint) h = of-verdict (openVerdict s identifier endpoint) 0 _ none (place-small s)
   of-call (Call.boothPacket endpoint packet size) h = of-verdict (packetVerdict s endpoint packet size) 0 _ none none
@@ -132,6 +132,7 @@ module _ (s : List ℕ) where
   of-call (Call.close identifier size) h = of-verdict (closeVerdict s identifier size) 0 _ none none
   of-call Call.end h = by-choice Small (up s) _ _ (λ _. none) (λ _. none)
   of-call (Call.look endpoint) h = of-verdict (lookVerdict s endpoint) 0 _ none none
+  of-call (Call.writePage size) h = of-verdict (pageVerdict s size) 0 _ none none
 
   said : (c : Call.Call) → length (lentTo c) ≤ room → NumbersWhole s (call c)
   said c h = whole (numberIn (answer s c)) (of-call c h)
@@ -150,6 +151,8 @@ module _ (s : List ℕ) where
   of-kind Look body h =
       by-choice (NumbersWhole s) (eqb (length body) endpointLength) (call (Call.look (endpointIn body))) misshapen
       (λ _. said (Call.look (endpointIn body)) none) (λ _. tt)
+  of-kind WritePage body h =
+      by-choice (NumbersWhole s) (eqb (length body) 0) (call (Call.writePage room)) misshapen (λ _. said (Call.writePage room) none) (λ _. tt)
   of-kind Unknown body h = tt
 
   pub numbers-whole : (frame : List ℕ) → NumbersWhole s (requestOf frame)

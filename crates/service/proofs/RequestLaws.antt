@@ -16,7 +16,7 @@ use Rattle.service.specs.Limits.{endpointLength, room, frameLimit}
 use Rattle.service.specs.Request.{Request, call, tooLong, misshapen, kindOf, endpointIn, behindEndpoint, requestBy, requestOf}
 use Rattle.service.specs.Reply.{Replies, Serves, reply, blockAfter, frameOf, answerOctets, lentTo}
 use Rattle.service.specs.declared.kind.Kind.{Kind}
-use Rattle.service.specs.declared.kind.Kind.the-variants.{Open, BoothPacket, End, Look}
+use Rattle.service.specs.declared.kind.Kind.the-variants.{Open, BoothPacket, End, Look, WritePage}
 use Rattle.service.proofs.FrameLaws.{same-answer}
 
 -- ---- what holds for a request holds for the same request
@@ -59,6 +59,12 @@ module _ (body : List ℕ) where
   pub look-request : length body ≡ endpointLength → {e : ℕ} → e ≡ endpointIn body → call (Call.look e) ≡ requestBy Look body
   look-request h a = rw (eq-eqb _ _ h) (ap (λ (n : ℕ). call (Call.look n)) a)
 
+  pub page-misshapen : (length body ≡ 0 → ⊥) → misshapen ≡ requestBy WritePage body
+  page-misshapen h = rw (ne-eqb _ _ h)
+
+  pub page-request : length body ≡ 0 → call (Call.writePage room) ≡ requestBy WritePage body
+  page-request h = rw (eq-eqb _ _ h)
+
 -- ---- by the whole frame
 
 module _ (frame : List ℕ) where
@@ -85,7 +91,7 @@ pub call-served : (c : Call) (s next l : List ℕ) (a : Answer) {x : List ℕ} {
     → Replies (frameOf (answerOctets (lentTo c) a)) l x to → Serves (call c) s next l x to
 call-served c s next l a e n o = (same-answer l (lentTo c) a e o, n)
 
--- a booth packet and a look leave the block as it is
+-- a booth packet, a look and a page leave the block as it is
 module _ (s body : List ℕ) where
   pub packet-keeps : s ≡ blockAfter s (requestBy BoothPacket body)
   unfolding step
@@ -94,6 +100,10 @@ module _ (s body : List ℕ) where
   pub look-keeps : s ≡ blockAfter s (requestBy Look body)
   unfolding step
   look-keeps = by-choice (λ q. s ≡ blockAfter s q) (eqb (length body) endpointLength) (call (Call.look (endpointIn body))) misshapen (λ h. refl) (λ h. refl)
+
+  pub page-keeps : s ≡ blockAfter s (requestBy WritePage body)
+  unfolding step
+  page-keeps = by-choice (λ q. s ≡ blockAfter s q) (eqb (length body) 0) (call (Call.writePage room)) misshapen (λ h. refl) (λ h. refl)
 
 -- by the kind that was told
 pub by-kind : (body : List ℕ) (k : Kind) {j : Kind} → j ≡ k → (s next l : List ℕ) {x : List ℕ} {to : ℕ}

@@ -4,3 +4,4 @@ pub mod Reply
 pub mod Sending
 pub mod Served
 pub mod Numbers
+pub mod Room

@@ -7,7 +7,7 @@ use Rattle.service.specs.Request.{Request, call, noCall}
 
 -- the number of an answer; 0 where it has none
 abbrev pub numberIn : Answer → ℕ
-numberIn a = byAnswer (λ number taken. taken) 0 (λ place. place) (λ endpoint dtls taken. taken) (λ taken. taken) a
+numberIn a = byAnswer (λ number taken. taken) 0 (λ place. place) (λ endpoint dtls taken. taken) (λ entries. 0) (λ taken. taken) a
 
 -- what two octets can say
 abbrev pub numbers16 : ℕ

@@ -6,11 +6,12 @@ use lib.ListN.{length, drop, replicate}
 use Rattle.octets.specs.Bounds.{partIn}
 use Rattle.octets.specs.Number.{octets16, octetsOf32}
 use Rattle.message.specs.Limits.{mkiLimit, saltLimit}
+use Rattle.status.specs.Page.{layout}
 use Rattle.rules.specs.Limits.{keyLimit}
 use Rattle.rules.specs.Layout.{field}
 use Rattle.rules.specs.Call as Call
 use Rattle.rules.specs.Call.{Call}
-use Rattle.rules.specs.Answer.{Association, opened, keyed, Answer, refused, moreNeeded, wrote, placed, ended, found, keysStored, delivery, removed, version}
+use Rattle.rules.specs.Answer.{Association, opened, keyed, Answer, refused, moreNeeded, wrote, placed, ended, found, keysStored, delivery, removed, version, page}
 use Rattle.rules.specs.Keys.{Keys}
 use Rattle.rules.specs.Table.{answer, step}
 use Rattle.service.specs.Limits.{keysLength}
@@ -44,6 +45,7 @@ answerOctets lent (keysStored endpoint taken) = (6 ∷ octets16 taken) ++ octets
 answerOctets lent (delivery endpoint dtls taken) = (7 ∷ octets16 taken) ++ octetsOf32 endpoint ++ partIn lent dtls
 answerOctets lent (removed endpoint taken) = (8 ∷ octets16 taken) ++ octetsOf32 endpoint
 answerOctets lent (version number taken) = (9 ∷ octets16 taken) ++ number ∷ []
+answerOctets lent (page entries) = 10 ∷ layout entries
 
 -- the octets that a call reads a message from
 abbrev pub lentTo : Call → List ℕ
@@ -54,6 +56,7 @@ lentTo (Call.tunnelOctets octets) = octets
 lentTo (Call.close identifier room) = []
 lentTo Call.end = []
 lentTo (Call.look endpoint) = []
+lentTo (Call.writePage room) = []
 
 -- ---- a request served on a block
 

@@ -9,7 +9,7 @@ use Rattle.rules.specs.Call as Call
 use Rattle.rules.specs.Call.{Call}
 use Rattle.service.specs.Limits.{endpointLength, room, frameLimit}
 use Rattle.service.specs.declared.kind.Kind.{Kind}
-use Rattle.service.specs.declared.kind.Kind.the-variants.{Start, Open, BoothPacket, TunnelOctets, Close, End, Look, Unknown}
+use Rattle.service.specs.declared.kind.Kind.the-variants.{Start, Open, BoothPacket, TunnelOctets, Close, End, Look, WritePage, Unknown}
 
 -- a call of the distributor, or none: then the kind of the relay's own answer
 pub data Request : Type 0 where
@@ -45,7 +45,8 @@ kindOf first =
     (cond (eqb first 5) Close
     (cond (eqb first 6) End
     (cond (eqb first 7) Look
-    Unknown))))))
+    (cond (eqb first 8) WritePage
+    Unknown)))))))
 
 -- the endpoint in front of a body, and what is behind it
 abbrev pub endpointIn : List ℕ → ℕ
@@ -64,6 +65,7 @@ requestBy TunnelOctets body = call (Call.tunnelOctets body)
 requestBy Close body = call (Call.close body room)
 requestBy End body = cond (eqb (length body) 0) (call Call.end) misshapen
 requestBy Look body = cond (eqb (length body) endpointLength) (call (Call.look (endpointIn body))) misshapen
+requestBy WritePage body = cond (eqb (length body) 0) (call (Call.writePage room)) misshapen
 requestBy Unknown body = unknown
 
 unfoldable pub requestOf : List ℕ → Request

@@ -35,6 +35,8 @@ pub const REMOVED: u8 = 8;
 
 pub const VERSION: u8 = 9;
 
+pub const PAGE: u8 = 10;
+
 // The relay's own: no call was made.
 pub const UNKNOWN: u8 = 128;
 
@@ -122,25 +124,25 @@ pub(crate) fn delivery(out: &mut [u8; ANSWER], endpoint: u32, dtls: &[u8], taken
     octets::put_octets(out, b, dtls)
 }
 
-// The head of an answer whose message stands behind it already.
-fn written(out: &mut [u8], count: usize) -> usize
+// The head of an answer whose octets stand behind it already.
+fn written(out: &mut [u8], kind: u8, count: usize) -> usize
     requires { ⌜ (length (now out) ≡ answerLimit) × (headLength + count ≤ answerLimit) ⌝ }
-    ensures { λ r. ⌜ (r ≡ headLength + count) × (now (out .exit) ≡ over (now (out .entry)) 0 (octets16 (1 + count) ++ 2 ∷ [])) ⌝ }
+    ensures { λ r. ⌜ (r ≡ headLength + count) × (now (out .exit) ≡ over (now (out .entry)) 0 (octets16 (1 + count) ++ kind ∷ [])) ⌝ }
 {
     let n = 1 + count;
     let high = (n / 256 % 256) as u8;
     let low = (n % 256) as u8;
-    octets::put_octets(out, 0, &[high, low, WRITTEN]);
+    octets::put_octets(out, 0, &[high, low, kind]);
     HEAD + count
 }
 
-// What a call that writes has sent.
-pub(crate) fn sent(out: &mut [u8], what: Sent) -> usize
+// What a call that writes has sent, by the kind of its answer where it wrote.
+pub(crate) fn sent(out: &mut [u8], kind: u8, what: Sent) -> usize
     requires { ⌜ (length (now out) ≡ answerLimit) × (headLength + Sending.behindHead what ≤ answerLimit) ⌝ }
-    ensures { λ r. ⌜ (r ≡ headLength + Sending.behindHead what) × (now (out .exit) ≡ over (now (out .entry)) 0 (Sending.front what)) ⌝ }
+    ensures { λ r. ⌜ (r ≡ headLength + Sending.behindHead what) × (now (out .exit) ≡ over (now (out .entry)) 0 (Sending.front kind what)) ⌝ }
 {
     match what {
-        Sent::Written { count } => written(out, count),
+        Sent::Written { count } => written(out, kind, count),
         Sent::Refused { number } => octets::put_octets(out, 0, &[0, 4, REFUSED, number, 0, 0]),
     }
 }

@@ -10,6 +10,7 @@ pub enum Kind {
     Close,
     End,
     Look,
+    WritePage,
     Unknown,
 }
 
@@ -24,6 +25,7 @@ pub fn kind_of(first: u8) -> Kind
         5 => Kind::Close,
         6 => Kind::End,
         7 => Kind::Look,
-        0 | 8..=255 => Kind::Unknown,
+        8 => Kind::WritePage,
+        0 | 9..=255 => Kind::Unknown,
     }
 }

@@ -27,6 +27,7 @@ fn serve_kind(state: &mut [u8; BLOCK], kind: Kind, body: &[u8], out: &mut [u8; A
         Kind::Close => writing::close(state, body, out),
         Kind::End => associations::end(state, body, out),
         Kind::Look => associations::look(state, body, out),
+        Kind::WritePage => writing::write_page(state, body, out),
         Kind::Unknown => answers::plain(out, answers::UNKNOWN),
     }
 }

@@ -5,3 +5,5 @@ pub mod SplitLimits
 pub mod TagMatches
 pub mod TopBit
 pub mod WriteLaws
+pub mod PageLaws
+pub mod PageMatches

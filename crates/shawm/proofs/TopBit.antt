@@ -1,14 +1,14 @@
 -- A refusal is told from every other answer by the top bit, and its low octet is its number.
-use Prim.Native.Nat.{ℕ, _^_, _<_}
-use mathlib.Core.Path.{refl}
-use mathlib.Core.Bool.{not}
+use Prim.Native.Nat.{ℕ, _^_, _≤_, _<_}
+use mathlib.Core.Path.{_≡_, refl}
+use mathlib.Core.Bool.{Bool, true, false, not, _&&_}
 use mathlib.Core.List.{List, [], _∷_}
 use native.Mathlib.Omega.{arith}
-use borrow.Author.Tests.{ltb-false}
+use borrow.Author.Tests.{ltb-true, ltb-false}
 use lib.Dec.{ltb, eqb}
-use lib.ListN.{length}
+use lib.ListN.{length, getD}
 use Rattle.octets.specs.Number.{Octets}
-use Rattle.octets.proofs.Tests.{by-choice}
+use Rattle.octets.proofs.Tests.{by-choice, both}
 use Rattle.demux.specs.Sorting as Sort
 use Rattle.demux.specs.declared.sorting.Kind.{Kind}
 use Rattle.message.specs.Limits.{bodyLimit}
@@ -20,9 +20,17 @@ use Rattle.message.specs.declared.bodies.Fields.{Fields}
 use Rattle.message.specs.declared.bodies.Fields.the-variants.{SupportedProfiles, UnsupportedVersion, MediaKeys, TunneledDtls, EndpointDisconnect}
 use Rattle.message.proofs.AnswerLaws.{encode-length}
 use Rattle.ekt.specs.Splitting as Split
+use Rattle.octets.specs.Part.{same}
+use Rattle.status.specs.Limits.{places}
+use Rattle.status.specs.Entries.{good, stateOf}
+use Rattle.status.specs.Page.{layout, countOf, decoded, isPage, noEntry, counting, picking}
+use Rattle.status.specs.declared.entry.Entry.{Entry}
+use Rattle.status.proofs.ListLaws.{good-listable}
+use Rattle.status.proofs.PageLaws.{decoded-length}
+use Rattle.status.proofs.ReadLaws.{page-few}
 use Rattle.shawm.specs.Numbers.{numberIn, fieldNumber}
 use Rattle.shawm.specs.Tag.{spiOrEpoch, tagNumber}
-use Rattle.shawm.specs.Claims.{SortTopBit, ReadTopBit, WriteTopBit, TagTopBit}
+use Rattle.shawm.specs.Claims.{SortTopBit, ReadTopBit, WriteTopBit, TagTopBit, CountTopBit, EntryTopBit}
 use Rattle.shawm.proofs.ReadLimits.{ReadLimits, reading-limits}
 use Rattle.shawm.proofs.SplitLimits.{SplitLimits, splitting-limits}
 
@@ -105,3 +113,28 @@ module _ (p : List ℕ) (o : Octets p) where
 
   pub tag-number-small : (field : ℕ) → tagNumber (Split.splitting p) field < 2 ^ 16
   tag-number-small field = tag-small field (Split.splitting p) (splitting-limits p)
+
+-- ---- a status page
+
+state-small : (keyed : Bool) → stateOf keyed ≤ 1
+state-small true = omega arith
+state-small false = omega arith
+
+module _ (s : List ℕ) where
+  pub count-top-bit : CountTopBit (counting s)
+  unfolding counting
+  count-top-bit = by-choice CountTopBit (isPage s) _ _ (λ h. omega (arith, page-few s h)) (λ _. (refl, omega arith))
+
+  -- a page's places are the table's
+  place-small : (n : ℕ) → (isPage s && ltb n (countOf s)) ≡ true → getD (decoded s) n noEntry .place < places
+  unfolding isPage
+  place-small n h =
+      let b = both (isPage s) (ltb n (countOf s)) h in
+      let g = both (good (decoded s)) (same (layout (decoded s)) s) (b .0) in
+      good-listable (decoded s) (g .0) .placeBelow n (omega (arith, decoded-length s, ltb-true n (countOf s) (b .1)))
+
+  pub entry-top-bit : (n : ℕ) → EntryTopBit (picking s n)
+  unfolding picking
+  entry-top-bit n =
+      by-choice EntryTopBit (isPage s && ltb n (countOf s)) _ _
+      (λ h. omega (arith, place-small n h, state-small (getD (decoded s) n noEntry .keyed))) (λ _. (refl, omega arith))

@@ -1,5 +1,5 @@
 -- What the theorems in proofs/ say of the answers.
-use Prim.Native.Nat.{ℕ, _+_, _-_, _≤_, _<_}
+use Prim.Native.Nat.{ℕ, _+_, _-_, _/_, _%_, _≤_, _<_}
 use mathlib.Core.Path.{_≡_}
 use mathlib.Core.List.{List, [], _∷_}
 use lib.ListN.{length}
@@ -13,12 +13,17 @@ use Rattle.message.specs.Write as Write
 use Rattle.message.specs.declared.bounds.Field.{Field}
 use Rattle.ekt.specs.Splitting as Split
 use Rattle.ekt.specs.Parts.{front, ciphertext, extensionData}
+use Rattle.status.specs.Entries.{stateOf}
+use Rattle.status.specs.Page.{Counted, counting, Picked, picking}
+use Rattle.status.specs.Claims.{nth}
+use Rattle.status.specs.declared.entry.Entry.{Entry}
 use Rattle.shawm.specs.Refusal.{topBit}
 use Rattle.shawm.specs.Sorting.{sortNumber}
 use Rattle.shawm.specs.Reading.{readNumber}
 use Rattle.shawm.specs.Fields.{fieldBounds}
 use Rattle.shawm.specs.Writing.{writeNumber}
 use Rattle.shawm.specs.Tag.{tagType}
+use Rattle.shawm.specs.Page.{countNumber, entryNumber, endpointNumber}
 
 -- ---- bounds
 
@@ -77,6 +82,17 @@ partsOf packet (Split.short start) = (1, front packet) ∷ []
 partsOf packet (Split.full spi epoch start end) = (1, front packet) ∷ (2, ciphertext packet) ∷ []
 partsOf packet (Split.extension messageType start end) = (1, front packet) ∷ (3, extensionData packet) ∷ []
 
+-- ---- a status page
+
+-- the numbers that are read of a page are those of its entries, place and state in one, and behind the last is none
+pub record PageMatches (page : List ℕ) (es : List Entry) : Type 0 where
+  pub count : countNumber (counting page) ≡ length es
+  pub place : (n : ℕ) → n < length es → entryNumber (picking page n) / 2 ≡ nth es n .place
+  pub state : (n : ℕ) → n < length es → entryNumber (picking page n) % 2 ≡ stateOf (nth es n .keyed)
+  pub endpoint : (n : ℕ) → n < length es → endpointNumber (picking page n) ≡ nth es n .endpoint
+  pub behind : (n : ℕ) → length es ≤ n → entryNumber (picking page n) ≡ topBit + 29
+  pub noEndpoint : (n : ℕ) → length es ≤ n → endpointNumber (picking page n) ≡ 0
+
 -- ---- refusals: no other answer has the top bit
 
 -- the top bit, and the number in the low octet, so that bits 8 to 30 are zero
@@ -101,3 +117,11 @@ TagTopBit (Split.refused number) = IsRefusal (tagType (Split.refused number)) nu
 TagTopBit (Split.short start) = tagType (Split.short start) < topBit
 TagTopBit (Split.full spi epoch start end) = tagType (Split.full spi epoch start end) < topBit
 TagTopBit (Split.extension messageType start end) = tagType (Split.extension messageType start end) < topBit
+
+abbrev pub CountTopBit : Counted → Type 0
+CountTopBit (Counted.refused number) = IsRefusal (countNumber (Counted.refused number)) number
+CountTopBit (Counted.entries count) = countNumber (Counted.entries count) < topBit
+
+abbrev pub EntryTopBit : Picked → Type 0
+EntryTopBit (Picked.refused number) = IsRefusal (entryNumber (Picked.refused number)) number
+EntryTopBit (Picked.entry e) = entryNumber (Picked.entry e) < topBit

@@ -5,4 +5,5 @@ pub mod Fields
 pub mod Numbers
 pub mod Writing
 pub mod Tag
+pub mod Page
 pub mod Claims

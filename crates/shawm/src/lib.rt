@@ -1,7 +1,9 @@
-// The C interface: sorting packets, reading and writing tunnel messages and splitting the EKT tag,
-// on numbers and lent octets. Each export gives a number for what a crate below answers.
+// The C interface: sorting packets, reading and writing tunnel messages, splitting the EKT tag and
+// reading a status page, on numbers and lent octets. Each export gives a number for what a crate below
+// answers.
 mod fields;
 mod numbers;
+mod page;
 mod reading;
 mod refusal;
 mod sorting;
@@ -11,6 +13,9 @@ mod writing;
 pub use fields::shawm_field_length;
 pub use fields::shawm_field_start;
 pub use numbers::shawm_field_number;
+pub use page::shawm_page_count;
+pub use page::shawm_page_endpoint;
+pub use page::shawm_page_entry;
 pub use reading::shawm_read;
 pub use reading::shawm_taken;
 pub use sorting::shawm_sort;

@@ -1,5 +1,6 @@
 // A case is a line: the library, the call, the octets that it is given, a bar, the text of the case.
 // The octets stand in brackets, before the bar or in the text. Any other line is a remark.
+use crate::pages;
 use crate::profiles;
 use crate::reading;
 use crate::sorting;
@@ -47,6 +48,7 @@ fn ask(state: &mut [u8; BLOCK], line: &[u8], given: &[u8]) {
         b'r' => reading::case(line, given),
         b'w' => writing::case(line, given),
         b'p' => profiles::case(line, given),
+        b's' => pages::case(line, given),
         b't' => table::case(state, line, given),
         _ => {}
     }

@@ -1,10 +1,11 @@
-// Worked octets and limits of document 01, run through the libraries. Standard input holds the cases,
+// Worked octets and limits of documents 01 and 02, run through the libraries. Standard input holds the cases,
 // one in a line; each is written out again with what the library answered.
 mod cases;
 mod example;
 mod messages;
 mod outcomes;
 mod outputs;
+mod pages;
 mod profiles;
 mod reading;
 mod records;

@@ -2,6 +2,7 @@
 use crate::cases;
 use crate::outcomes;
 use crate::outputs::FILL;
+use crate::pages;
 use crate::records;
 use crate::sending;
 use distributor::BLOCK;
@@ -14,6 +15,7 @@ pub fn case(state: &mut [u8; BLOCK], line: &[u8], given: &[u8]) {
         b't' => tunnel_octets(state, line, given),
         b'e' => end(state, line),
         b'l' => look(state, line),
+        b'p' => pages::write(state, line),
         _ => sending::case(state, line, given),
     }
 }

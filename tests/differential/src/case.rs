@@ -1,13 +1,14 @@
 //! One call, or the calls on one input, with all its arguments; and the line of text that it is printed as and
 //! read back from.
 
-/// `ask`: a field or part number that is asked for beside all those that the interface knows. `room`: the length of the
+/// `ask`: a field, part or entry number that is asked for beside all those that the interface or the page knows. `room`: the length of the
 /// output. `fields`: MKI, client key, server key, client salt, server salt.
 #[derive(Clone, PartialEq, Eq, Debug)]
 pub enum Case {
     Sort { packet: Vec<u8> },
     Read { octets: Vec<u8>, ask: u32 },
     Tag { packet: Vec<u8>, ask: u32 },
+    Page { page: Vec<u8>, ask: usize },
     SupportedProfiles { version: u8, list: Vec<u8>, room: usize },
     UnsupportedVersion { version: u8, room: usize },
     MediaKeys { id: Vec<u8>, profile: u16, fields: [Vec<u8>; 5], room: usize },
@@ -41,6 +42,7 @@ impl std::fmt::Display for Case {
             Sort { packet } => write!(f, "sort {}", hex(packet)),
             Read { octets, ask } => write!(f, "read {ask} {}", hex(octets)),
             Tag { packet, ask } => write!(f, "tag {ask} {}", hex(packet)),
+            Page { page, ask } => write!(f, "page {ask} {}", hex(page)),
             SupportedProfiles { version, list, room } => {
                 write!(f, "write-supported-profiles {room} {version} {}", hex(list))
             }
@@ -62,6 +64,7 @@ pub fn parse(line: &str) -> Option<Case> {
         ["sort", packet] => Sort { packet: from_hex(packet)? },
         ["read", ask, octets] => Read { octets: from_hex(octets)?, ask: ask.parse().ok()? },
         ["tag", ask, packet] => Tag { packet: from_hex(packet)?, ask: ask.parse().ok()? },
+        ["page", ask, page] => Page { page: from_hex(page)?, ask: ask.parse().ok()? },
         ["write-supported-profiles", room, version, list] => {
             SupportedProfiles { version: version.parse().ok()?, list: from_hex(list)?, room: room.parse().ok()? }
         }

@@ -4,6 +4,7 @@
 use crate::case::Case;
 use crate::lent::{Edge, Memory};
 use crate::library::*;
+use crate::page;
 use crate::paper::{self, Why};
 use crate::random::Random;
 
@@ -31,6 +32,8 @@ pub struct Bench {
 
 /// Of every field and part number that the interface knows, and those between and around them.
 const LAST_ASKED: u32 = 18;
+/// Entry numbers whose low bits, or whose bits into a page, are those of an entry.
+const HUGE: [usize; 4] = [1 << 32, 1 << 63, usize::MAX, usize::MAX / 38 + 1];
 
 impl Bench {
     pub fn new() -> Bench {
@@ -61,6 +64,12 @@ impl Bench {
                 let at = self.lent[0].put(packet, edge);
                 let why = self.tag(at, packet, *ask)?;
                 unchanged("packet", at, packet)?;
+                Ok(why)
+            }
+            Case::Page { page, ask } => {
+                let at = self.lent[0].put(page, edge);
+                let why = self.page(at, page, *ask)?;
+                unchanged("page", at, page)?;
                 Ok(why)
             }
             _ => self.write(case, edge, shift),
@@ -130,6 +139,32 @@ impl Bench {
         Ok(tag.why)
     }
 
+    /// Every entry of a page and the number behind the last, of what is no page the first two, and numbers far beyond.
+    pub fn page(&mut self, at: *const u8, octets: &[u8], ask: usize) -> Result<Why, Disagreement> {
+        let n = octets.len();
+        let page = page::read(octets);
+        let last = page.as_ref().map_or(1, |entries| entries.len());
+        self.same(
+            || "shawm_page_count".to_string(),
+            unsafe { shawm_page_count(at, n) },
+            as_number(page::count(&page)),
+        )?;
+        for number in (0..=last).chain(HUGE).chain([ask]) {
+            let (entry, endpoint) = page::nth(&page, number);
+            self.same(
+                || format!("shawm_page_entry of {number}"),
+                unsafe { shawm_page_entry(at, n, number) },
+                as_number(entry),
+            )?;
+            self.same(
+                || format!("shawm_page_endpoint of {number}"),
+                unsafe { shawm_page_endpoint(at, n, number) },
+                endpoint,
+            )?;
+        }
+        Ok(page::why(&page, ask))
+    }
+
     fn write(&mut self, case: &Case, edge: Edge, shift: u8) -> Result<Why, Disagreement> {
         let (expected, why) = by_paper(case);
         let (inputs, room) = stretches(case);
@@ -180,7 +215,7 @@ fn by_paper(case: &Case) -> paper::Written {
         }
         Case::TunneledDtls { id, dtls, room } => paper::write_tunneled_dtls(id, dtls, *room),
         Case::EndpointDisconnect { id, room } => paper::write_endpoint_disconnect(id, *room),
-        Case::Sort { .. } | Case::Read { .. } | Case::Tag { .. } => unreachable!("not a writer"),
+        Case::Sort { .. } | Case::Read { .. } | Case::Tag { .. } | Case::Page { .. } => unreachable!("not a writer"),
     }
 }
 
@@ -194,7 +229,7 @@ fn stretches(case: &Case) -> (Vec<&[u8]>, usize) {
         }
         Case::TunneledDtls { id, dtls, room } => (vec![id, dtls], *room),
         Case::EndpointDisconnect { id, room } => (vec![id], *room),
-        Case::Sort { .. } | Case::Read { .. } | Case::Tag { .. } => unreachable!("not a writer"),
+        Case::Sort { .. } | Case::Read { .. } | Case::Tag { .. } | Case::Page { .. } => unreachable!("not a writer"),
     }
 }
 
@@ -226,7 +261,9 @@ fn by_library(case: &Case, lent: &[*const u8; 6], out: *mut u8) -> u32 {
                 shawm_write_tunneled_dtls(lent[0], id.len(), lent[1], dtls.len(), out, *room)
             }
             Case::EndpointDisconnect { id, room } => shawm_write_endpoint_disconnect(lent[0], id.len(), out, *room),
-            Case::Sort { .. } | Case::Read { .. } | Case::Tag { .. } => unreachable!("not a writer"),
+            Case::Sort { .. } | Case::Read { .. } | Case::Tag { .. } | Case::Page { .. } => {
+                unreachable!("not a writer")
+            }
         }
     }
 }

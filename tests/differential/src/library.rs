@@ -47,6 +47,9 @@ extern "C" {
     pub fn shawm_tag_start(packet: *const u8, n: usize, part: u32) -> usize;
     pub fn shawm_tag_length(packet: *const u8, n: usize, part: u32) -> usize;
     pub fn shawm_tag_number(packet: *const u8, n: usize, field: u32) -> u32;
+    pub fn shawm_page_count(page: *const u8, n: usize) -> u32;
+    pub fn shawm_page_entry(page: *const u8, n: usize, number: usize) -> u32;
+    pub fn shawm_page_endpoint(page: *const u8, n: usize, number: usize) -> u32;
 }
 
 /// An answer as a number of the interface: the top bit and the refusal's number in the low octet, or the value.

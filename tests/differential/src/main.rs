@@ -9,10 +9,13 @@ mod compare;
 mod lent;
 mod library;
 mod make;
+mod make_page;
+mod page;
 mod paper;
 mod random;
 mod stop;
 mod sweep;
+mod sweep_page;
 mod tally;
 mod vast;
 

@@ -1,9 +1,14 @@
 //! Makes cases: random, laid out by the papers, damaged, and at the limits.
 
 use crate::case::Case;
+use crate::make_page;
 use crate::random::Random;
 
 pub fn case(random: &mut Random) -> Case {
+    // A page has more answers than the others, so there are fewer of them.
+    if random.once_in(80) {
+        return make_page::page(random);
+    }
     match random.below(20) {
         0 => Case::Sort { packet: packet(random) },
         1..=9 => Case::Read { octets: octets(random), ask: ask(random) },

@@ -1,5 +1,6 @@
 //! The rules of sorting, messages and the tag, written from RFC 9185, RFC 8870, RFC 5764 and document 01
-//! alone. Nothing here is taken from the library; every number below stands in one of those papers.
+//! alone. Nothing here is taken from the library; every number below stands in one of those papers. Those of the status
+//! page are in page.rs.
 //!
 //! Each answer comes with a `Why`, finer than the answer, by which the tally sees that every branch of the
 //! papers was reached.
@@ -82,6 +83,18 @@ whys! {
     WriteDtlsNoRoom,
     WriteDisconnectBadIdentifier,
     WriteDisconnectNoRoom,
+    PageOfNone,
+    PageOpenEntry,
+    PageKeyedEntry,
+    PageNumberBeyond,
+    PageWithoutCount,
+    PageCountAbove,
+    PageShort,
+    PageLong,
+    PageFilling,
+    PagePlaceTwice,
+    PagePlaceFalls,
+    PageEndpointTwice,
 }
 
 // ---------------------------------------------------------------- RFC 5764, section 5.1.2

@@ -1,10 +1,12 @@
 //! Whole ranges, without chance: every header, every length of tag, every first octet, every length of a list and of
-//! DTLS octets to behind the limit, and five lengths of each field of MediaKeys in every combination.
+//! DTLS octets to behind the limit, and five lengths of each field of MediaKeys in every combination; of the status page
+//! in sweep_page.rs.
 
 use crate::case::Case;
 use crate::compare::{Bench, Disagreement};
 use crate::lent::{Edge, Memory};
 use crate::stop;
+use crate::sweep_page;
 
 /// What a sweep was at when it ended early, as a line to be pasted.
 pub type Swept = Result<(), (String, Disagreement)>;
@@ -15,10 +17,13 @@ pub fn all(bench: &mut Bench) -> Swept {
     tags(bench)?;
     lists(bench)?;
     packets(bench)?;
-    keys(bench)
+    keys(bench)?;
+    sweep_page::lengths(bench)?;
+    sweep_page::bits(bench)?;
+    sweep_page::numbers(bench)
 }
 
-fn run(bench: &mut Bench, case: Case) -> Swept {
+pub fn run(bench: &mut Bench, case: Case) -> Swept {
     let _at = stop::during(&case);
     for edge in [Edge::Low, Edge::High] {
         bench.run(&case, edge, 7).map_err(|d| (case.to_string(), d))?;

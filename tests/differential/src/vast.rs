@@ -10,7 +10,7 @@ const VAST: usize = 1 << 32;
 pub fn all(bench: &mut Bench) -> Result<(), Disagreement> {
     let mut memory = Memory::new(VAST + 8192);
     let id = [7u8; 16];
-    for more in [0, 1, 2, 3, 4, 8, 16, 19, 22, 1027] {
+    for more in [0, 1, 2, 3, 4, 6, 8, 16, 19, 22, 1027] {
         let n = VAST + more;
         let at = memory.at(n, Edge::High);
         let lent = unsafe { std::slice::from_raw_parts_mut(at, n) };
@@ -24,6 +24,11 @@ pub fn all(bench: &mut Bench) -> Result<(), Disagreement> {
         for end in [&[0, 8, 2][..], &[1, 2, 2], &[1, 3, 2], &[0, 4, 3], &[4, 3, 255], &[4, 4, 255], &[0, 0, 0], &[1]] {
             lent[n - end.len()..].copy_from_slice(end);
             bench.tag(at, lent, 19)?;
+        }
+        // Pages of none and of one entry, if their lengths were cut.
+        for front in [[0; 6], [4, 0, 0, 0, 0, 0]] {
+            lent[..front.len()].copy_from_slice(&front);
+            bench.page(at, lent, 0)?;
         }
         too_long(bench, at, lent, &id)?;
         key_too_long(bench, lent, &id)?;

@@ -29,6 +29,7 @@ pub enum Answer {
         taken: usize,
         version: u8,
     },
+    Page(Vec<u8>),
     UnknownKind,
     AboveLimit,
     WrongLength,
@@ -47,6 +48,7 @@ impl Answer {
             Answer::Delivery { .. } => 7,
             Answer::Removed { .. } => 8,
             Answer::Version { .. } => 9,
+            Answer::Page(_) => 10,
             Answer::UnknownKind => 128,
             Answer::AboveLimit => 129,
             Answer::WrongLength => 130,
@@ -62,7 +64,7 @@ impl Answer {
                 out.push(*number);
                 put16(out, *taken);
             }
-            Answer::Written(octets) | Answer::Found(octets) => out.extend_from_slice(octets),
+            Answer::Written(octets) | Answer::Found(octets) | Answer::Page(octets) => out.extend_from_slice(octets),
             Answer::Placed(number) => put16(out, *number),
             Answer::Stored { taken, endpoint, .. } | Answer::Removed { taken, endpoint } => {
                 put16(out, *taken);

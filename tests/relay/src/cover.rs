@@ -4,11 +4,12 @@ use std::collections::BTreeMap;
 
 use crate::answer::Answer;
 use crate::frames::FRAME_LIMIT;
+use crate::page::entries;
 use crate::reading::{front, media_keys, Front, MediaKeys, A, BODY_LIMIT};
 use crate::table::{Reply, Table, MKI_LIMIT, PACKET_LIMIT, PLACES, SALT_LIMIT};
 
 /// The calls; those of Tunnel octets are told apart by the type octet.
-pub const CALLS: [&str; 13] = [
+pub const CALLS: [&str; 14] = [
     "Start",
     "Open",
     "Booth packet",
@@ -22,6 +23,7 @@ pub const CALLS: [&str; 13] = [
     "Tunnel, type 4",
     "Tunnel, type 5",
     "Tunnel, unlisted type",
+    "Write page",
 ];
 
 #[derive(Default)]
@@ -58,6 +60,7 @@ pub fn call_of(frame: &[u8]) -> Option<usize> {
         4 if frame.len() < 4 => Some(6),
         4 if (1..=5).contains(&frame[1]) => Some(6 + usize::from(frame[1])),
         4 => Some(12),
+        8 => Some(13),
         _ => None,
     }
 }
@@ -84,6 +87,7 @@ impl Cover {
         match frame[0] {
             3 => self.packet(frame, reply),
             4 => self.tunnel(&frame[1..], reply),
+            8 => self.page(table),
             _ if frame.len() == FRAME_LIMIT => self.case("frame of the limit, kind", usize::from(frame[0])),
             _ => {}
         }
@@ -107,7 +111,7 @@ impl Cover {
             (129, _) if [FRAME_LIMIT + 1, 0xFFFF].contains(&frame.len()) => {
                 self.case("above the limit, exactly", frame.len())
             }
-            (129, Some(0 | 8..)) => self.case("above the limit and of unknown kind", 0),
+            (129, Some(0 | 9..)) => self.case("above the limit and of unknown kind", 0),
             (129, _) => self.case("above the limit, others", 0),
             (_, None) => self.case("empty frame", 0),
             (_, Some(&first)) if frame.len() < 5 => self.case("frame too short or long, kind", usize::from(first)),
@@ -133,6 +137,24 @@ impl Cover {
             (Answer::Refused { number: 10, .. }, _, _) => self.after_full = AfterFull::Refused(frame.to_vec()),
             (Answer::Written(_), 5, AfterFull::Refused(opening)) => self.after_full = AfterFull::Closed(opening),
             _ => {}
+        }
+    }
+
+    fn page(&mut self, table: &Table) {
+        if !table.up() {
+            return self.case("page with the tunnel down", 0);
+        }
+        let entries = entries(&table.places);
+        let keyed = entries.iter().filter(|entry| entry.keyed).count();
+        self.case("page of so many entries", entries.len());
+        if keyed > 0 && keyed < entries.len() {
+            self.case("page of open and keyed entries", 0);
+        }
+        if entries.iter().enumerate().any(|(at, entry)| entry.place != at) {
+            self.case("page with a free place below a live one", 0);
+        }
+        for entry in entries {
+            self.case(if entry.keyed { "keyed entry of place" } else { "open entry of place" }, entry.place);
         }
     }
 

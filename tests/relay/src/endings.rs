@@ -27,15 +27,19 @@ fn short_exchange() -> Batch {
     let delivery: [&[u8]; 3] = [&[4, 0, 20], &identifier, &[0, 2, 22, 1]];
     exchange(&[
         request(7, &[&endpoint]),
+        vec![8],
         request(1, &[&[0, 9, 0, 10]]),
         request(2, &[&endpoint, &identifier]),
         vec![],
+        vec![8],
         media_keys(&identifier),
+        vec![8],
         request(7, &[&endpoint]),
         request(3, &[&endpoint, &[22, 1, 2, 3]]),
         request(4, &delivery),
         request(99, &[&[1, 2]]),
         request(6, &[&[0]]),
+        request(8, &[&[0]]),
         request(4, &[&[3, 0]]),
         request(5, &[&identifier]),
         request(4, &[&[2, 0, 1, 7]]),
@@ -122,10 +126,15 @@ pub fn killed(path: &Path, seed: u64, round: u8) -> Result<(), Failure> {
 fn after_kill(path: &Path, seed: u64, endpoints: &[[u8; 4]]) -> Result<(), Failure> {
     let mut requests = vec![request(7, &[&endpoints[0]]), request(1, &[&[0, 9]])];
     requests.extend(endpoints.iter().map(|endpoint| request(7, &[endpoint])));
+    requests.push(vec![8]);
     requests.push(request(2, &[&endpoints[0], &[endpoints[0][3]; A]]));
     let after = exchange(&requests);
     let gone = (2..2 + endpoints.len()).all(|index| after.pair(index).1 == [0, 4, 1, 6, 0, 0]);
-    assert!(gone && after.pair(1).1[2] == 2, "the first state: Start accepted, Look refused with 6");
+    let none = after.pair(2 + endpoints.len()).1 == [0, 2, 10, 0];
+    assert!(
+        gone && none && after.pair(1).1[2] == 2,
+        "the first state: Start accepted, Look refused with 6, a page of none"
+    );
     one_by_one(path, &after)?;
     one_by_one(path, &Source::new(seed).batch(50)).map(|_| ())
 }

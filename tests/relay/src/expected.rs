@@ -5,7 +5,7 @@ use crate::cover::{Cover, CALLS};
 /// By call: the refusals that it gives, the other answers, and the pairs that apply together, the given one first.
 type Row = (&'static [u8], &'static [u8], &'static [(u8, u8)]);
 
-const ROWS: [Row; 13] = [
+const ROWS: [Row; 14] = [
     (&[17, 16], &[2], &[(17, 16)]),
     (&[1, 20, 11, 12, 10], &[3], &[(1, 20), (20, 12), (20, 10), (11, 12), (11, 10), (12, 10)]),
     (&[1, 6, 14, 15], &[2], &[(1, 6), (1, 14), (1, 15), (6, 14), (6, 15), (14, 15)]),
@@ -40,12 +40,13 @@ const ROWS: [Row; 13] = [
     (&[1, 2, 5, 6], &[0, 7], &[(1, 2), (1, 5), (1, 6), (5, 6)]),
     (&[1, 2, 5, 6], &[0, 8], &[(1, 2), (1, 5), (1, 6), (5, 6)]),
     (&[1, 2, 3], &[0], &[(1, 2), (1, 3), (2, 3)]),
+    (&[], &[10], &[]),
 ];
 
 /// Cases by name, with their numbers: from the first to the last.
-const CASES: [(&str, usize, usize); 58] = [
+const CASES: [(&str, usize, usize); 64] = [
     ("unknown kind", 0, 0),
-    ("unknown kind", 8, 255),
+    ("unknown kind", 9, 255),
     ("unknown kind in a frame of the limit", 0, 0),
     ("above the limit, exactly", 4101, 4101),
     ("above the limit, exactly", 65535, 65535),
@@ -53,8 +54,8 @@ const CASES: [(&str, usize, usize); 58] = [
     ("above the limit, others", 0, 0),
     ("empty frame", 0, 0),
     ("frame too short or long, kind", 2, 3),
-    ("frame too short or long, kind", 6, 7),
-    ("frame too long, kind", 6, 7),
+    ("frame too short or long, kind", 6, 8),
+    ("frame too long, kind", 6, 8),
     ("frame of the limit, kind", 1, 2),
     ("frame of the limit, kind", 5, 5),
     ("opened at place", 0, 31),
@@ -102,6 +103,12 @@ const CASES: [(&str, usize, usize); 58] = [
     ("bad body: length too small", 4, 4),
     ("bad body: length too large", 4, 4),
     ("bad body: octets behind the identifier", 5, 5),
+    ("page with the tunnel down", 0, 0),
+    ("page of so many entries", 0, 32),
+    ("page of open and keyed entries", 0, 0),
+    ("page with a free place below a live one", 0, 0),
+    ("open entry of place", 0, 31),
+    ("keyed entry of place", 0, 31),
 ];
 
 /// Prints what was reached; the lines of what was not reached often enough, or should not occur.

@@ -22,7 +22,7 @@ pub fn respond(table: &mut Table, frame: &[u8]) -> Reply {
         return own(Answer::WrongLength);
     };
     match (kind, rest.len()) {
-        (2 | 3 | 7, 0..=3) | (7, 5..) | (6, 1..) => own(Answer::WrongLength),
+        (2 | 3 | 7, 0..=3) | (7, 5..) | (6 | 8, 1..) => own(Answer::WrongLength),
         (1, _) => table.start(rest),
         (2, _) => table.open(&rest[4..], endpoint(rest)),
         (3, _) => table.booth(endpoint(rest), &rest[4..]),
@@ -30,6 +30,7 @@ pub fn respond(table: &mut Table, frame: &[u8]) -> Reply {
         (5, _) => table.close(rest),
         (6, _) => table.end(),
         (7, _) => table.look(endpoint(rest)),
+        (8, _) => table.page(),
         _ => own(Answer::UnknownKind),
     }
 }

@@ -1,5 +1,5 @@
 //! A load test of the relay from outside: its answers over pipes, octet for octet, against a model of
-//! document 01's table that shares no code with it.
+//! the table of documents 01 and 02 that shares no code with it.
 
 mod answer;
 mod child;
@@ -9,6 +9,7 @@ mod expected;
 mod failure;
 mod frames;
 mod messages;
+mod page;
 mod pools;
 mod reading;
 mod refusals;
@@ -93,6 +94,8 @@ fn endings(options: &Options) -> Result<(), ExitCode> {
 }
 
 fn test(options: &Options) -> Result<String, ExitCode> {
+    let (read, refused) = page::check();
+    println!("the model's pages with one bit changed: {read} read, {refused} refused, as they would be written");
     let (many, cover) = part(options, "pipelined", streams::pipelined(&options.relay, options.seed, options.count))?;
     let wrong = expected::judge(&cover);
     let reached = if wrong.is_empty() { Ok(()) } else { Err(Failure::new(wrong.join("\n"))) };

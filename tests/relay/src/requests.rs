@@ -9,15 +9,15 @@ use crate::pools::Pools;
 use crate::rng::Rng;
 use crate::table::{Reply, Table, PACKET_LIMIT};
 
-/// Weights of: Start, Open, Booth packet, Tunnel octets, reset by Tunnel octets, Close, End, Look, Looks at all, frames
-/// that the relay answers itself.
-type Mood = [usize; 10];
-const DOWN: Mood = [300, 100, 110, 230, 90, 80, 30, 80, 0, 20];
-const FILL: Mood = [6, 560, 60, 200, 0, 15, 0, 120, 2, 10];
-const FULL: Mood = [10, 230, 150, 330, 0, 70, 0, 160, 3, 20];
-const MIXED: Mood = [20, 160, 150, 400, 4, 50, 4, 190, 4, 20];
-const RESETS: Mood = [40, 250, 100, 250, 60, 40, 40, 150, 3, 30];
-const DRAIN: Mood = [10, 40, 100, 330, 0, 330, 2, 160, 3, 10];
+/// Weights of: Start, Open, Booth packet, Tunnel octets, reset by Tunnel octets, Close, End, Look, Looks at all, Write
+/// page, frames that the relay answers itself.
+type Mood = [usize; 11];
+const DOWN: Mood = [300, 100, 110, 230, 90, 80, 30, 80, 0, 45, 20];
+const FILL: Mood = [6, 560, 60, 200, 0, 15, 0, 120, 2, 45, 10];
+const FULL: Mood = [10, 230, 150, 330, 0, 70, 0, 160, 3, 45, 20];
+const MIXED: Mood = [20, 160, 150, 400, 4, 50, 4, 190, 4, 45, 20];
+const RESETS: Mood = [40, 250, 100, 250, 60, 40, 40, 150, 3, 45, 30];
+const DRAIN: Mood = [10, 40, 100, 330, 0, 330, 2, 160, 3, 45, 10];
 
 pub struct Requests {
     rng: Rng,
@@ -60,6 +60,7 @@ impl Requests {
             6 => vec![6],
             7 => behind(7, &self.pools.endpoint(&mut self.rng, table, 70).to_be_bytes()),
             8 => self.look_at_all(table),
+            9 => vec![8],
             _ => self.own(table),
         }
     }
@@ -171,8 +172,8 @@ impl Requests {
             8 => return octets,
             9 => (self.rng.pick(&[2, 3, 7]), self.rng.below(4)),
             10 => (7, self.rng.pick(&[5, 6, 20])),
-            11 => (6, self.rng.pick(&[1, 2, 4, 20])),
-            12 => (self.rng.pick(&[6, 7]), FRAME_LIMIT - 1),
+            11 => (self.rng.pick(&[6, 8]), self.rng.pick(&[1, 2, 4, 20])),
+            12 => (self.rng.pick(&[6, 7, 8]), FRAME_LIMIT - 1),
             13 => (self.unknown(), FRAME_LIMIT - 1),
             _ => return self.above(table),
         };
@@ -182,8 +183,8 @@ impl Requests {
     }
 
     fn unknown(&mut self) -> u8 {
-        match self.rng.range(7, 255) {
-            7 => 0,
+        match self.rng.range(8, 255) {
+            8 => 0,
             kind => kind as u8,
         }
     }

@@ -1,6 +1,7 @@
-//! The tunnel and the table, written from document 01 alone ("The record and its calls").
+//! The tunnel and the table, written from document 01 ("The record and its calls") and document 02 alone.
 
 use crate::answer::{put16, Answer};
+use crate::page;
 use crate::reading::{front, good_body, media_keys, number16, Front, MediaKeys, A};
 use crate::refusals::Refusals;
 
@@ -187,6 +188,11 @@ impl Table {
             (None, Some(record)) => accepted(Answer::Found(record.octets())),
             (number, _) => refused(number.expect("a refusal"), 0, applying),
         }
+    }
+
+    /// A down tunnel has no live association, so its page shows none.
+    pub fn page(&self) -> Reply {
+        accepted(Answer::Page(page::held(&page::entries(&self.places))))
     }
 
     pub fn tunnel(&mut self, octets: &[u8]) -> Reply {

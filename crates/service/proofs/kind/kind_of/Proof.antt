@@ -37,7 +37,11 @@ returns-8 c = rw (c .match .keys8)
 
 returns-9 : tie.Need-returns-9
 unfolding Spec.kindOf
-returns-9 c = search tests
+returns-9 c = rw (c .match .keys9)
+
+returns-10 : tie.Need-returns-10
+unfolding Spec.kindOf
+returns-10 c = search tests
 
 pub kind-of-spec : {M : Type 1} → statement M
 kind-of-spec =
@@ -51,4 +55,5 @@ kind-of-spec =
     returns-6
     returns-7
     returns-8
-    returns-9)
+    returns-9
+    returns-10)

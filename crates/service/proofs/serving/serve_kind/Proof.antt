@@ -1,7 +1,7 @@
 use mathlib.Core.Path.{refl}
 use denote.Ref.{now}
 use Rattle.service.specs.declared.kind.Kind.{Kind}
-use Rattle.service.proofs.RequestLaws.{by-kind, packet-keeps, look-keeps}
+use Rattle.service.proofs.RequestLaws.{by-kind, packet-keeps, look-keeps, page-keeps}
 use borrow.Author.Needs.{needs}
 use Rattle.service.proofs.serving.serve_kind.Statement.{statement}
 use Rattle.service.proofs.serving.serve_kind.Tie as tie
@@ -43,8 +43,13 @@ returns-7 c =
 
 returns-8 : tie.Need-returns-8
 returns-8 c =
+    let a = c .before .before .before .before .before .before .args in
+    by-kind (now (a .body)) Kind.WritePage (c .before .before .before .enum-told8 .given .1) (now (a .state)) _ (now (a .out)) (c .write-page .ensures, page-keeps (now (a .state)) (now (a .body)))
+
+returns-9 : tie.Need-returns-9
+returns-9 c =
     let a = c .before .before .before .before .before .args in
-    by-kind (now (a .body)) Kind.Unknown (c .before .before .enum-told8 .given .1) (now (a .state)) (now (a .state)) (now (a .out)) (c .plain .ensures, refl)
+    by-kind (now (a .body)) Kind.Unknown (c .before .before .enum-told9 .given .1) (now (a .state)) (now (a .state)) (now (a .out)) (c .plain .ensures, refl)
 
 pub serve-kind-spec : {M : Type 1} → statement M
-serve-kind-spec = tie.close (tie.spec (λ c. search needs) (λ c κs. search needs) (λ c. search needs) (λ c κs. search needs) (λ c. search needs) (λ c κs. search needs) (λ c. search needs) (λ c κs. search needs) (λ c. search needs) (λ c κs. search needs) (λ c. search needs) (λ c κs. search needs) (λ c. search needs) (λ c κs. search needs) (λ c. search needs) (λ c κs. search needs) returns returns-2 returns-3 returns-4 returns-5 returns-6 returns-7 returns-8)
+serve-kind-spec = tie.close (tie.spec (λ c. search needs) (λ c κs. search needs) (λ c. search needs) (λ c κs. search needs) (λ c. search needs) (λ c κs. search needs) (λ c. search needs) (λ c κs. search needs) (λ c. search needs) (λ c κs. search needs) (λ c. search needs) (λ c κs. search needs) (λ c. search needs) (λ c κs. search needs) (λ c. search needs) (λ c κs. search needs) (λ c. search needs) (λ c κs. search needs) returns returns-2 returns-3 returns-4 returns-5 returns-6 returns-7 returns-8 returns-9)

@@ -1,0 +1,15 @@
+pub mod LimitFacts
+pub mod BitLaws
+pub mod PackLaws
+pub mod WordLaws
+pub mod EntryLaws
+pub mod PageLaws
+pub mod NumberLaws
+pub mod JoinedLaws
+pub mod ScanLaws
+pub mod NumbersLaws
+pub mod ReadLaws
+pub mod ListLaws
+pub mod PlaceLaws
+pub mod TableLaws
+pub mod Theorem
