@@ -10,14 +10,17 @@
 
 static int pipe_ends[2];
 
-/* A full pipe says the same already, so the write may fail. */
+/* Tried again where it is interrupted or finds the pipe not ready: without its octet the signal would be lost. A pipe that
+ * is full says the same already, so the tries may end. */
+enum { TRIES = 64 };
+
 static void caught(int number)
 {
-    int before = errno;
+    int before = errno, tries = 0;
     unsigned char octet = (unsigned char)number;
 
-    if (write(pipe_ends[1], &octet, 1) < 0)
-        errno = before;
+    while (write(pipe_ends[1], &octet, 1) < 0 && (errno == EINTR || errno == EAGAIN) && ++tries < TRIES)
+        continue;
     errno = before;
 }
 
