@@ -8,7 +8,7 @@ static size_t two(const uint8_t *at)
     return (size_t)at[0] << 8 | at[1];
 }
 
-/* RFC 7983, section 7: the kinds by their numbers from 0, the last two put behind those of RFC 5764. */
+/* The kinds of RFC 7983, section 7, by their numbers in shawm.h: those that RFC 5764 did not have come last. */
 enum { STUN, DTLS, MEDIA, OTHER, ZRTP, CHANNEL };
 
 /* Upwards: each limit is for what those before it have left. */
