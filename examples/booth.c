@@ -28,11 +28,13 @@ int main(void)
     };
     static const uint8_t stun[] = { 0x00, 0x01, 0x00, 0x00 };
     static const uint8_t handshake[] = { 0x16, 0xfe, 0xfd, 0x00, 0x00 };
+    static const uint8_t channel[] = { 0x40, 0x00, 0x00, 0x02, 0xab, 0xcd };
     static const uint8_t media[] = { 0x80, 0x60, 0x00, 0x01 };
     uint8_t out[SHAWM_MESSAGE_LIMIT];
     size_t n, i;
 
     printf("STUN: %zu octets for the tunnel\n", wrap(id, stun, sizeof stun, out));
+    printf("TURN channel: %zu octets for the tunnel\n", wrap(id, channel, sizeof channel, out));
     printf("media: %zu octets for the tunnel\n", wrap(id, media, sizeof media, out));
     n = wrap(id, handshake, sizeof handshake, out);
     printf("DTLS: %zu octets for the tunnel:", n);

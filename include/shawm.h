@@ -2,7 +2,7 @@
  * shawm.h: the Media Distributor of RFC 9185, for C and C++.
  *
  * What it does
- *   sort    says by its first octet what a packet is (RFC 5764, section 5.1.2)
+ *   sort    says by its first octet what a packet is (RFC 7983, section 7)
  *   read    reads the front of the octets that came through the tunnel, as one
  *           tunnel message (RFC 9185, section 6), and says where its fields are
  *   write   writes each of the five tunnel messages from its fields
@@ -122,15 +122,24 @@ static inline uint32_t shawm_refusal_number(uint32_t answer)
 
 /* --------------------------------------------------------- sorting a packet */
 
+/* Once given, a number stays, and a new kind gets the next. */
 enum shawm_kind {
-    SHAWM_KIND_STUN = 0,   /* first octet 0 or 1 */
-    SHAWM_KIND_DTLS = 1,   /* 20 to 63 */
-    SHAWM_KIND_RTP = 2,    /* 128 to 191: RTP or RTCP */
-    SHAWM_KIND_OTHER = 3   /* every other value */
+    SHAWM_KIND_STUN = 0,          /* first octet 0 to 3 */
+    SHAWM_KIND_DTLS = 1,          /* 20 to 63 */
+    SHAWM_KIND_RTP = 2,           /* 128 to 191: RTP or RTCP */
+    SHAWM_KIND_OTHER = 3,         /* every other value: 4 to 15, 80 to 127, 192 to 255 */
+    SHAWM_KIND_ZRTP = 4,          /* 16 to 19 */
+    SHAWM_KIND_TURN_CHANNEL = 5   /* 64 to 79: TURN's ChannelData */
 };
 
 /* The kind of a packet (enum shawm_kind). Only its first octet is looked at.
- * Refused with SHAWM_EMPTY_PACKET, exactly when n is 0. */
+ * Refused with SHAWM_EMPTY_PACKET, exactly when n is 0.
+ *
+ * By RFC 7983 a packet of kind SHAWM_KIND_OTHER is to be dropped. A later library
+ * may know more kinds: drop those that you do not know as well.
+ *
+ * TURN's channels are 0x4000 to 0x4FFF (RFC 8656). A peer that still binds higher
+ * ones, as RFC 5766 allowed, sends ChannelData that is SHAWM_KIND_OTHER. */
 uint32_t shawm_sort(const uint8_t *packet, size_t n);
 
 /* -------------------------------------------------- reading a tunnel message */

@@ -1,4 +1,4 @@
-/* From a booth: what kind of packet it is decides where it goes (RFC 5764, section 5.1.2). */
+/* From a booth: what kind of packet it is decides where it goes (RFC 7983, section 7). */
 #include "branch.h"
 
 #include "clock.h"
@@ -46,7 +46,8 @@ static int open_booth(struct branch *branch, const struct address *from, const s
     return 0;
 }
 
-/* To the key distributor. The relay alone judges what is DTLS; one that was cut is longer than any that it takes. */
+/* To the key distributor: only what sorts as DTLS comes here, and the relay refuses all else by itself (14). A packet
+ * that was cut is longer than any that it takes. */
 static int to_tunnel(struct branch *branch, struct booth *booth, const struct packet *packet)
 {
     struct answer answer;
@@ -88,6 +89,28 @@ static void media(struct booth *booth, const struct packet *packet)
     booth->tag = tag;
 }
 
+/* Why a packet is dropped, by its kind. Media is dropped only where there is no association; DTLS never comes
+ * here. */
+static const char *const reasons[BRANCH_KINDS] = {
+    [SHAWM_KIND_STUN] = "STUN",
+    [SHAWM_KIND_RTP] = "media, and no association with that address",
+    [SHAWM_KIND_OTHER] = "of no known kind",
+    [SHAWM_KIND_ZRTP] = "ZRTP",
+    [SHAWM_KIND_TURN_CHANNEL] = "TURN channel data"
+};
+
+/* Nobody here deals with it: it opens nothing and keeps no association open. What is of no known kind has to be dropped,
+ * and an alert may be logged (RFC 7983, section 7); so is a kind that only a later library has. */
+static void drop(struct branch *branch, uint32_t kind, const struct listed *listed, const struct packet *packet)
+{
+    const char *more;
+
+    if (kind >= BRANCH_KINDS || reasons[kind] == NULL)
+        kind = SHAWM_KIND_OTHER;
+    if ((more = log_limited(&branch->dropped[kind])) != NULL)
+        say("booth %s: packet dropped: %s%s", booth_label(&packet->from, listed), reasons[kind], more);
+}
+
 /* With a list of booths: 1 if a packet from an address that has no association is taken, *listed being its line. Others
  * are dropped: those of strangers, and those from another port of a booth that has an association, since they would be
  * of another endpoint. */
@@ -117,8 +140,7 @@ static int from_unknown(struct branch *branch, uint32_t kind, const struct liste
     struct booth *booth;
 
     if (kind != SHAWM_KIND_DTLS) {
-        say("booth %s: packet dropped: not DTLS, and no association with that address",
-            booth_label(&packet->from, listed));
+        drop(branch, kind, listed, packet);
         return 0;
     }
     if (open_booth(branch, &packet->from, listed, &booth) != 0)
@@ -129,15 +151,13 @@ static int from_unknown(struct branch *branch, uint32_t kind, const struct liste
 /* From a booth that has an association. */
 static int from_known(struct branch *branch, uint32_t kind, struct booth *booth, const struct packet *packet)
 {
-    if (kind == SHAWM_KIND_STUN) {
-        say("booth %s: STUN, which belongs to others", booth_name(booth));
-        return 0;
-    }
-    if (kind == SHAWM_KIND_RTP) {
+    if (kind == SHAWM_KIND_DTLS)
+        return to_tunnel(branch, booth, packet);
+    if (kind == SHAWM_KIND_RTP)
         media(booth, packet);
-        return 0;
-    }
-    return to_tunnel(branch, booth, packet);
+    else
+        drop(branch, kind, booth->listed, packet);
+    return 0;
 }
 
 int branch_packet(struct branch *branch, const struct packet *packet)

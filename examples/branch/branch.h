@@ -14,12 +14,16 @@
 #include "tunnel.h"
 #include "udp.h"
 
+/* How many kinds of packets it knows (enum shawm_kind). */
+enum { BRANCH_KINDS = SHAWM_KIND_TURN_CHANNEL + 1 };
+
 struct branch {
     struct relay relay;
     struct tunnel tunnel;
     struct booths booths;
     const struct list *list;      /* NULL: every address is served */
     struct log_limit strangers;   /* for packets from addresses that are not in the list */
+    struct log_limit dropped[BRANCH_KINDS];   /* by kind: for packets that are dropped for it, from whomever */
     struct status status;
     int udp;
     struct address distributor;

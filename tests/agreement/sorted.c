@@ -9,7 +9,7 @@
 #include <stdlib.h>
 #include <string.h>
 
-static unsigned int counts[4];
+static unsigned int counts[6]; /* by kind */
 
 static void require(int holds, const char *what, unsigned int number)
 {
@@ -61,9 +61,10 @@ static FILE *open_capture(const char *path)
 
 static uint32_t kind_of(const char *view, unsigned int number)
 {
-    static const char *const names[] = { "stun", "dtls", "rtp", "rtcp", "channel-data" };
-    static const uint32_t kinds[] = { SHAWM_KIND_STUN, SHAWM_KIND_DTLS, SHAWM_KIND_RTP, SHAWM_KIND_RTP,
-                                      SHAWM_KIND_OTHER };
+    /* A reserved channel is one above 0x4FFF: RFC 5766 allowed it, RFC 8656 does not, and RFC 7983 has no kind for it. */
+    static const char *const names[] = { "stun", "dtls", "rtp", "rtcp", "zrtp", "channel-data", "reserved-channel" };
+    static const uint32_t kinds[] = { SHAWM_KIND_STUN, SHAWM_KIND_DTLS, SHAWM_KIND_RTP, SHAWM_KIND_RTP, SHAWM_KIND_ZRTP,
+                                      SHAWM_KIND_TURN_CHANNEL, SHAWM_KIND_OTHER };
     size_t i;
 
     for (i = 0; i < sizeof names / sizeof names[0]; i++) {
@@ -140,7 +141,8 @@ int main(int argc, char **argv)
     require(fscanf(view, "%u %31s", &viewed, name) != 2, "in the view alone", number);
     fclose(capture);
     fclose(view);
-    printf("%u packets as tshark sees them: %u STUN, %u DTLS, %u RTP or RTCP, %u other\n", number - 1,
-           counts[SHAWM_KIND_STUN], counts[SHAWM_KIND_DTLS], counts[SHAWM_KIND_RTP], counts[SHAWM_KIND_OTHER]);
+    printf("%u packets as tshark sees them: %u STUN, %u DTLS, %u RTP or RTCP, %u ZRTP, %u TURN channel, %u other\n",
+           number - 1, counts[SHAWM_KIND_STUN], counts[SHAWM_KIND_DTLS], counts[SHAWM_KIND_RTP], counts[SHAWM_KIND_ZRTP],
+           counts[SHAWM_KIND_TURN_CHANNEL], counts[SHAWM_KIND_OTHER]);
     return number == 1;
 }

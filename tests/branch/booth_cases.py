@@ -4,8 +4,16 @@ import signal
 import time
 import uuid
 
+import builds
 import messages
 from harness import DTLS, KEYS, Booth
+from status_cases import listened_to, requests
+
+# The kinds that are dropped as the log has them, and the first octets at the limits of each (RFC 7983, section 7).
+LIMITS = {"STUN": (0, 3), "ZRTP": (16, 19), "TURN channel data": (64, 79), "of no known kind": (4, 15, 80, 127, 192, 255)}
+
+# What the relay can be asked for (docs/RELAY.md).
+OPEN, PACKET = 2, 3
 
 
 def identifiers_are_version_4(bench):
@@ -62,13 +70,102 @@ def lengths(bench):
     assert distributor.quiet(0.1)
 
 
+def dropped(branch, booth, octet, kind):
+    """Sends a packet with this first octet, for which the log has a line that says its kind and nothing more."""
+    line = "booth %s: packet dropped: %s" % (booth.label, kind)
+    booth.send(bytes([octet]) + bytes(19))
+    assert branch.say(line) == line
+
+
 def kinds(bench):
+    """First octets on both sides of every limit. Only DTLS is for the relay. As the log has one line of a kind in a
+    while, each branch gets one packet of each kind that is dropped."""
+    for at in range(max(map(len, LIMITS.values()))):
+        branch, distributor = bench.up(relay=listened_to(bench))
+        booth = branch.booth()
+        for kind, octets in LIMITS.items():
+            if at < len(octets):
+                dropped(branch, booth, octets[at], kind)
+        for packet, tag in ((b"\x80\x00", "a Short"), (b"\xBF\x01", "no")):
+            booth.send(packet)
+            branch.say("booth %s: media with %s EKT tag" % (booth.label, tag))
+        for octet in (20, 63):
+            booth.send(bytes([octet]))
+            assert messages.dtls_of(distributor.message()[1]) == (booth.identifier, bytes([octet]))
+        assert distributor.quiet(0.05) and branch.end() == 0
+        asked = requests(bench.path("requests"))
+        assert (asked.count(OPEN), asked.count(PACKET)) == (1, 3), asked
+        bench.close()
+
+
+def every_first_octet(bench):
+    """All 256 from a booth, and all but DTLS from an address without an association. A kind that is dropped has one line
+    at once, and later ones that say how many were left out: the limit is one for each kind, whoever sent them."""
+    branch, distributor = bench.up()
+    booth, unknown = branch.booth(), Booth(branch.port)
+    began, arrived = time.monotonic(), []
+    for octet in range(256):
+        booth.send(bytes([octet, octet % 2]))       # of media every other has a Short tag, so each has its line
+        if not 20 <= octet < 64:
+            unknown.send(bytes([octet, 0]))
+        booth.send(DTLS)                            # behind the others
+        while (packet := messages.dtls_of(distributor.message()[1])[1]) != DTLS:
+            arrived.append(packet)
+    assert arrived == [bytes([octet, octet % 2]) for octet in range(20, 64)]
+    assert branch.ask("look 2").startswith("refused, 6: ")
+    assert branch.child.output().count(b": media with ") == 64
+    took = time.monotonic() - began
+    time.sleep(5.2)
+    for octet in (0, 16, 64, 4, 128):
+        unknown.send(bytes([octet, 0]))
+    booth.send(DTLS)                                # behind them
+    assert messages.dtls_of(distributor.message()[1])[1] == DTLS
+    lines = branch.child.lines()
+    for kind, count in (("STUN", 2 * 4), ("ZRTP", 2 * 4), ("TURN channel data", 2 * 16), ("of no known kind", 2 * 124),
+                        ("media, and no association with that address", 64)):
+        said = [line.split(": packet dropped: " + kind)[1] for line in lines if ": packet dropped: " + kind in line]
+        left_out = sum(int(rest.split()[1]) for rest in said if rest != "")
+        assert said[0] == "" and len(said) + left_out == count + 1 and len(said) <= 2 + took / 5, (kind, said)
+
+
+def kinds_of_a_later_library(bench):
+    """A kind that the branch has no name for is one that nobody knows."""
+    bench.program = builds.build("branch-later")
+    for number in range(4):
+        branch, distributor = bench.up()
+        booth, unknown = branch.booth(), Booth(branch.port)
+        dropped(branch, (booth, unknown)[number % 2], 0xF0 + number, "of no known kind")
+        assert distributor.quiet(0.05) and branch.ask("look 2").startswith("refused, 6: ")
+        bench.close()
+
+
+def channel_data_at_the_rate_of_media(bench):
+    """From a booth and from a stranger, beside a booth that talks: nothing of that one is lost, nothing is opened, and
+    the log does not grow."""
+    branch, distributor = bench.up()
+    talking, booth, stranger = branch.booth(), branch.booth(), Booth(branch.port)
+    channel = bytes([0x40, 0x00, 0x00, 0xAC, 0x80, 0x60]) + bytes(170)
+    began = time.monotonic()
+    for number in range(100):
+        for _ in range(20):
+            booth.send(channel)
+            stranger.send(channel)
+        talking.send(b"\x80" + bytes([number % 2]))
+        talking.send(DTLS + bytes([number]))
+        assert messages.dtls_of(distributor.message()[1]) == (talking.identifier, DTLS + bytes([number]))
+    lines = branch.child.lines()
+    assert sum("media with" in line for line in lines) == 100
+    assert 1 <= sum("TURN channel data" in line for line in lines) <= 1 + (time.monotonic() - began) / 5, lines
+    assert len(lines) < 110 and distributor.quiet(0.05), lines
+    assert branch.ask("look 2") == "open" and branch.ask("look 3").startswith("refused, 6: ")
+    branch.reopen(stranger)
+    assert stranger.endpoint == 3
+
+
+def tags(bench):
     branch, distributor = bench.up()
     booth = branch.booth()
-    for packet, line in ((b"", "packet refused, 19: "), (b"\x00", "STUN"), (b"\x01" * 20, "STUN"),
-                         (b"\x02", "packet refused, 14: "), (b"\x13", "packet refused, 14: "),
-                         (b"\x40", "packet refused, 14: "), (b"\xC0", "packet refused, 14: "),
-                         (b"\x80\x00", "media with a Short EKT tag"),
+    for packet, line in ((b"", "packet refused, 19: "), (b"\x80\x00", "media with a Short EKT tag"),
                          (b"\x80" + bytes.fromhex("AA12340001000802"), "media with a Full EKT tag"),
                          (b"\xBF" + bytes.fromhex("BB000403"), "media with an Extension EKT tag"),
                          (b"\x80\x01", "media with no EKT tag: refused, 18: ")):
@@ -78,17 +175,19 @@ def kinds(bench):
 
 
 def unknown_addresses(bench):
-    """Only DTLS makes an association."""
-    branch, distributor = bench.up()
+    """Only DTLS makes an association, and only for DTLS the relay is asked."""
+    branch, distributor = bench.up(relay=listened_to(bench))
     unknown = Booth(branch.port)
-    for packet in (b"\x00", b"\x40", b"\x80\x00"):
-        unknown.send(packet)
-        branch.say("booth %s: packet dropped: not DTLS, and no association with that address" % unknown.address)
+    for kind, octets in LIMITS.items():
+        dropped(branch, unknown, octets[0], kind)
+    dropped(branch, unknown, 128, "media, and no association with that address")
     unknown.send(b"")
     branch.say("booth %s: packet refused, 19: " % unknown.address)
     assert distributor.quiet(0.1)
     branch.reopen(unknown)
-    assert unknown.endpoint == 1
+    assert unknown.endpoint == 1 and branch.end() == 0
+    asked = requests(bench.path("requests"))
+    assert (asked.count(OPEN), asked.count(PACKET)) == (1, 1), asked
 
 
 def silence_ends_an_association(bench):
@@ -117,12 +216,13 @@ def ended_while_nothing_comes(bench):
 
 
 def rubbish_is_silence(bench):
-    """What is refused does not keep an association."""
+    """What is refused or dropped does not keep an association."""
     branch, distributor = bench.up("--idle", "500")
     booth = branch.booth()
     began = time.monotonic()
     while distributor.quiet(0.05) and time.monotonic() - began < 3:
-        booth.send(b"\x40")
+        for packet in (b"", DTLS + bytes(4079), *(bytes([octets[0]]) for octets in LIMITS.values())):
+            booth.send(packet)
     assert time.monotonic() - began < 3
     assert distributor.message() == (5, booth.identifier)
 
@@ -174,8 +274,9 @@ def without_a_tunnel(bench):
         branch.say("booth %s: opening refused, 1: the tunnel is down" % booth.address)
 
 
-# For one build alone: with interrupted calls it does not write fast enough.
-ONLY = {burst: "branch-plain"}
-CASES = [identifiers_are_version_4, each_booth_its_own, endpoints_above_255, lengths, kinds, unknown_addresses,
-         silence_ends_an_association, ended_while_nothing_comes, rubbish_is_silence, burst, full, booth_that_is_gone,
-         without_a_tunnel]
+# For one build alone: with interrupted calls it does not write fast enough; this waits for a time limit of the program;
+# this has a build of its own.
+ONLY = {burst: "branch-plain", every_first_octet: "branch-plain", kinds_of_a_later_library: "branch-plain"}
+CASES = [identifiers_are_version_4, each_booth_its_own, endpoints_above_255, lengths, kinds, every_first_octet,
+         kinds_of_a_later_library, channel_data_at_the_rate_of_media, tags, unknown_addresses, silence_ends_an_association,
+         ended_while_nothing_comes, rubbish_is_silence, burst, full, booth_that_is_gone, without_a_tunnel]

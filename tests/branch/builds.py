@@ -1,4 +1,5 @@
-"""The branch, compiled for the tests: as it ships, for the demo, under the sanitizers, and with interrupted calls."""
+"""The branch, compiled for the tests: as it ships, for the demo, under the sanitizers, with interrupted calls,
+and with a library that has more kinds."""
 
 import os
 import subprocess
@@ -13,13 +14,15 @@ LIBRARY = os.environ.get("SHAWM_LIBRARY", os.path.join(ROOT, "build", "libshawm.
 CHECKS = ["-g", "-fsanitize=address,undefined", "-fno-sanitize-recover=all"]
 WRAPPED = ("read", "write", "poll", "recvmsg", "sendto", "recv", "send", "getrandom", "waitpid", "connect")
 INTERRUPTED = ["-U_FORTIFY_SOURCE", "tests/branch/interrupted.c", "-Wl," + ",".join("--wrap=" + call for call in WRAPPED)]
+LATER = ["tests/branch/later.c", "-Wl,--wrap=shawm_sort"]
 
-# Name: control, flags. The first is the one that ships.
+# Name: control, flags. The first is the one that ships. The last, with a library that has more kinds, is for one case.
 BUILDS = {
     "branch-shipped": ("none", []),
     "branch-plain": ("compare", []),
     "branch-checked": ("compare", CHECKS),
     "branch-interrupted": ("compare", CHECKS + INTERRUPTED),
+    "branch-later": ("compare", CHECKS + LATER),
 }
 WITH_CONTROL = ("branch-plain", "branch-checked", "branch-interrupted")
 

@@ -113,12 +113,13 @@ def numbers_as_listed(bench):
 def names_in_the_log(bench):
     branch, distributor = listed(bench, ["# the booths", "127.0.0.2\t7\t " + UMLAUT + " \t"], "--idle", "1500")
     early = Booth(branch.port, host="127.0.0.2", name=UMLAUT)
-    for packet, line in ((b"\x40", "packet dropped: not DTLS"), (b"", "packet refused, 19: ")):
+    for packet, line in ((b"\x40", "packet dropped: TURN channel data"), (b"", "packet refused, 19: ")):
         early.send(packet)
         branch.say("booth %s: %s" % (early.label, line))
     branch.reopen(early)
     branch.key(early, KEYS)
-    for packet, line in ((b"\x80\x00", "media with a Short EKT tag"), (b"\x40", "packet refused, 14: "), (b"\x00", "STUN")):
+    for packet, line in ((b"\x80\x00", "media with a Short EKT tag"), (DTLS + bytes(4079), "packet refused, 15: "),
+                         (b"\x00", "packet dropped: STUN")):
         early.send(packet)
         branch.say("booth %s: %s" % (early.label, line))
     branch.say("booth %s: closed: silent for too long" % early.label)

@@ -96,12 +96,8 @@ BOOTHS = [
      PLAIN, "each_booth_its_own"),
     ("identifier.c", "id[6] = (uint8_t)(0x40 | (id[6] & 0x0F));", "",
      PLAIN, "identifiers_are_version_4"),
-    ("booth_side.c", "if (kind != SHAWM_KIND_DTLS) {", "if (kind == SHAWM_KIND_RTP) {",
-     PLAIN, "unknown_addresses"),
-    ("booth_side.c", "if (kind == SHAWM_KIND_STUN) {", "if (kind == SHAWM_KIND_OTHER) {",
-     PLAIN, "kinds"),
     ("booth_side.c", "tag == SHAWM_TAG_FULL ?", "tag != SHAWM_TAG_FULL ?",
-     PLAIN, "kinds"),
+     PLAIN, "tags"),
     ("booth_side.c", "if (packet->cut) {", "if (packet->n == 0) {",
      PLAIN, "lengths"),
     ("relay.c", "if (n > SHAWM_DTLS_LIMIT) {", "if (n > 4096) {",
@@ -121,6 +117,61 @@ BOOTHS = [
     ("booth_side.c", "if (booth == NULL)\n        return from_unknown",
      "if (booth != NULL)\n        booth->heard = now();\n    if (booth == NULL)\n        return from_unknown",
      PLAIN, "rubbish_is_silence"),
+]
+
+# Where a packet is sorted, where DTLS and media of a booth with an association are told from the rest, where DTLS of an
+# unknown address is, and what is dropped.
+SORTED = "uint32_t kind = shawm_sort(packet->octets, packet->n);"
+KNOWN_DTLS, KNOWN_MEDIA = "if (kind == SHAWM_KIND_DTLS)\n", "if (kind == SHAWM_KIND_RTP)\n"
+UNKNOWN_DTLS = "if (kind != SHAWM_KIND_DTLS) {"
+DROPPED = "if ((more = log_limited(&branch->dropped[kind])) != NULL)"
+UNLIMITED = "if ((more = branch == NULL ? NULL : \"\") != NULL)"
+BOUND = "if (kind >= BRANCH_KINDS || reasons[kind] == NULL)"
+KNOWN_DROP, UNKNOWN_DROP = "drop(branch, kind, booth->listed, packet);", "drop(branch, kind, listed, packet);"
+REFUSED = "if (answer.kind == ANSWER_REFUSED) {\n        refused(booth_name(booth), \"packet\""
+
+
+def also(kind, text):
+    """A condition on the kind that holds for another one too."""
+    return text.replace("(kind", "(kind == SHAWM_KIND_%s || kind" % kind)
+
+
+KINDS = [
+    ("booth_side.c", KNOWN_DTLS, also("OTHER", KNOWN_DTLS), PLAIN, "kinds"),
+    ("booth_side.c", KNOWN_DTLS, also("ZRTP", KNOWN_DTLS), PLAIN, "kinds"),
+    ("booth_side.c", KNOWN_DTLS, also("STUN", KNOWN_DTLS), PLAIN, "every_first_octet"),
+    ("booth_side.c", KNOWN_DROP,
+     KNOWN_DROP + "\n    if (kind == SHAWM_KIND_ZRTP)\n        return to_tunnel(branch, booth, packet);", PLAIN, "kinds"),
+    ("booth_side.c", KNOWN_MEDIA, also("TURN_CHANNEL", KNOWN_MEDIA), PLAIN, "kinds"),
+    ("booth_side.c", KNOWN_MEDIA, also("TURN_CHANNEL", KNOWN_MEDIA), PLAIN, "channel_data_at_the_rate_of_media"),
+    ("booth_side.c", KNOWN_MEDIA, also("OTHER", KNOWN_MEDIA), PLAIN, "every_first_octet"),
+    ("booth_side.c", KNOWN_MEDIA, "if (packet->octets[0] >> 6 == 2 && packet->octets[0] < 191)\n", PLAIN, "kinds"),
+    ("booth_side.c", SORTED, SORTED + "\n\n    if (packet->octets[0] == 79)\n        kind = SHAWM_KIND_OTHER;",
+     PLAIN, "kinds"),
+    ("booth_side.c", UNKNOWN_DTLS, "if (kind == SHAWM_KIND_RTP) {", PLAIN, "unknown_addresses"),
+    ("booth_side.c", UNKNOWN_DTLS, "if (kind != SHAWM_KIND_DTLS && kind != SHAWM_KIND_RTP) {", PLAIN, "unknown_addresses"),
+    ("booth_side.c", UNKNOWN_DTLS, "if (kind != SHAWM_KIND_DTLS && kind != SHAWM_KIND_TURN_CHANNEL) {",
+     PLAIN, "channel_data_at_the_rate_of_media"),
+    ("booth_side.c", UNKNOWN_DTLS, "if (kind == SHAWM_KIND_RTP)\n        return 0;\n    if (kind != SHAWM_KIND_DTLS) {",
+     PLAIN, "unknown_addresses"),
+    ("booth_side.c", KNOWN_DROP, KNOWN_DROP + "\n    if (kind != SHAWM_KIND_RTP)\n        booth->heard = now();",
+     PLAIN, "rubbish_is_silence"),
+    ("booth_side.c", KNOWN_DROP, KNOWN_DROP + "\n    if (kind == SHAWM_KIND_STUN)\n        booth->heard = now();",
+     PLAIN, "rubbish_is_silence"),
+    ("booth_side.c", REFUSED, "booth->heard = now();\n    " + REFUSED, PLAIN, "rubbish_is_silence"),
+    ("booth_side.c", KNOWN_DROP, "drop(branch, kind, NULL, packet);", PLAIN, "names_in_the_log"),
+    ("booth_side.c", UNKNOWN_DROP, "drop(branch, kind, NULL, packet);", PLAIN, "names_in_the_log"),
+    ("booth_side.c", DROPPED, UNLIMITED, PLAIN, "channel_data_at_the_rate_of_media"),
+    ("booth_side.c", DROPPED, UNLIMITED, PLAIN, "every_first_octet"),
+    ("booth_side.c", DROPPED, DROPPED.replace("[kind]", "[0]"), PLAIN, "kinds"),
+    ("booth_side.c", "reasons[kind], more);", "reasons[kind], \"\");", PLAIN, "every_first_octet"),
+    ("booth_side.c", "[SHAWM_KIND_ZRTP] = \"ZRTP\",\n    [SHAWM_KIND_TURN_CHANNEL] =",
+     "[SHAWM_KIND_TURN_CHANNEL] = \"ZRTP\",\n    [SHAWM_KIND_ZRTP] =", PLAIN, "kinds"),
+    ("booth_side.c", "[SHAWM_KIND_STUN] = \"STUN\",", "[SHAWM_KIND_STUN] = NULL,", PLAIN, "unknown_addresses"),
+    ("booth_side.c", BOUND, "if (reasons[kind] == NULL)", PLAIN, "kinds_of_a_later_library"),
+    ("booth_side.c", BOUND, BOUND.replace(">=", ">"), PLAIN, "kinds_of_a_later_library"),
+    ("booth_side.c", BOUND, "if (kind >= BRANCH_KINDS)\n        return;\n    if (reasons[kind] == NULL)",
+     PLAIN, "kinds_of_a_later_library"),
 ]
 
 # Where a packet from another port is told.
@@ -226,6 +277,7 @@ SHOW = """    say("key %02x%02x%02x%02x%02x%02x%02x%02x", record.octets[43], rec
         record.octets[46], record.octets[47], record.octets[48], record.octets[49], record.octets[50]);
     wipe(&record, sizeof record);"""
 DEMONSTRATED = [
+    ("booth_side.c", KNOWN_MEDIA, also("TURN_CHANNEL", KNOWN_MEDIA), PLAIN, DEMO),
     ("booth_side.c", "relay_packet(&branch->relay, booth->endpoint,",
      "relay_packet(&branch->relay, 3 - booth->endpoint,", PLAIN, DEMO),
     ("tunnel_side.c", "booths_by_endpoint(&branch->booths, answer->endpoint)",
@@ -243,4 +295,4 @@ DEMONSTRATED = [
      "        print(self.booths[1].keys[1][4:20])\n        self.steps.note(\"Look at both records", PLAIN, DEMO),
 ]
 
-WRONG = TUNNEL + KEYS + SYSTEM_CALLS + BOOTHS + LIST + STATUS + RELAY + DEMONSTRATED
+WRONG = TUNNEL + KEYS + SYSTEM_CALLS + BOOTHS + KINDS + LIST + STATUS + RELAY + DEMONSTRATED

@@ -1,15 +1,42 @@
-/* RFC 5764, section 5.1.2: the first octet decides. */
+/* RFC 7983, section 7: the first octet decides. */
 #include "check.h"
+
+/* All first octets, 16 to a row: S STUN, Z ZRTP, D DTLS, T TURN channel, R RTP or RTCP, and a dot for Other. */
+static const char map[16][17] = {
+    "SSSS............", /* 0 */
+    "ZZZZDDDDDDDDDDDD", /* 16 */
+    "DDDDDDDDDDDDDDDD",
+    "DDDDDDDDDDDDDDDD",
+    "TTTTTTTTTTTTTTTT", /* 64 */
+    "................", /* 80 */
+    "................",
+    "................",
+    "RRRRRRRRRRRRRRRR", /* 128 */
+    "RRRRRRRRRRRRRRRR",
+    "RRRRRRRRRRRRRRRR",
+    "RRRRRRRRRRRRRRRR",
+    "................", /* 192 */
+    "................",
+    "................",
+    "................"
+};
 
 static uint32_t kind_of(unsigned int octet)
 {
-    if (octet <= 1)
+    switch (map[octet / 16][octet % 16]) {
+    case 'S':
         return SHAWM_KIND_STUN;
-    if (octet >= 20 && octet <= 63)
+    case 'Z':
+        return SHAWM_KIND_ZRTP;
+    case 'D':
         return SHAWM_KIND_DTLS;
-    if (octet >= 128 && octet <= 191)
+    case 'T':
+        return SHAWM_KIND_TURN_CHANNEL;
+    case 'R':
         return SHAWM_KIND_RTP;
-    return SHAWM_KIND_OTHER;
+    default:
+        return SHAWM_KIND_OTHER;
+    }
 }
 
 void sorting(void)

@@ -2,11 +2,21 @@
 
 FAULTS = [
     # Sorting.
-    ("63 is not DTLS", "paper.c", "packet[0] < 20 ? 3 : 1;", "packet[0] < 20 || packet[0] == 63 ? 3 : 1;"),
-    ("19 is DTLS", "paper.c", "packet[0] < 20 ? 3 : 1;", "packet[0] < 19 ? 3 : 1;"),
-    ("2 is STUN", "paper.c", "packet[0] < 2 ? 0", "packet[0] < 3 ? 0"),
-    ("64 to 127 are media", "paper.c", "    case 2:\n        return 2;", "    case 1:\n    case 2:\n        return 2;"),
-    ("an empty packet is Other", "paper.c", "return REFUSAL(19);", "return 3;"),
+    ("2 and 3 are Other, as in RFC 5764", "paper.c", "packet[0] < 4)", "packet[0] < 2)"),
+    ("4 is STUN", "paper.c", "packet[0] < 4)", "packet[0] < 5)"),
+    ("15 is ZRTP", "paper.c", "packet[0] < 16)", "packet[0] < 15)"),
+    ("16 is Other", "paper.c", "packet[0] < 16)", "packet[0] < 17)"),
+    ("19 is DTLS", "paper.c", "packet[0] < 20)", "packet[0] < 19)"),
+    ("20 is ZRTP", "paper.c", "packet[0] < 20)", "packet[0] < 21)"),
+    ("63 is TURN channel", "paper.c", "packet[0] < 64)", "packet[0] < 63)"),
+    ("64 is DTLS", "paper.c", "packet[0] < 64)", "packet[0] < 65)"),
+    ("79 is Other", "paper.c", "packet[0] < 80)", "packet[0] < 79)"),
+    ("80 is TURN channel", "paper.c", "packet[0] < 80)", "packet[0] < 81)"),
+    ("127 is media", "paper.c", "packet[0] < 128)", "packet[0] < 127)"),
+    ("192 is media", "paper.c", "packet[0] < 192)", "packet[0] < 193)"),
+    ("ZRTP and TURN channel change numbers", "paper.c", "OTHER, ZRTP, CHANNEL };", "OTHER, CHANNEL, ZRTP };"),
+    ("ZRTP and TURN channel are Other, as in RFC 5764", "paper.c", "OTHER, ZRTP, CHANNEL };", "OTHER, ZRTP = OTHER, CHANNEL = OTHER };"),
+    ("an empty packet is Other", "paper.c", "return REFUSAL(19);", "return OTHER;"),
     # Reading.
     ("waits for a whole UnsupportedVersion", "paper.c", "} else if (n >= 4) {", "} else if (n - 3 >= length) {"),
     ("holds UnsupportedVersion to the limit", "paper.c", "    if (octets[0] == 2) {\n", "    if (octets[0] == 2 && length <= 4096) {\n"),

@@ -8,19 +8,29 @@ static size_t two(const uint8_t *at)
     return (size_t)at[0] << 8 | at[1];
 }
 
-/* RFC 5764, section 5.1.2. */
+/* The kinds of RFC 7983, section 7, by their numbers in shawm.h: those that RFC 5764 did not have come last. */
+enum { STUN, DTLS, MEDIA, OTHER, ZRTP, CHANNEL };
+
+/* Upwards: each limit is for what those before it have left. */
 answer paper_sort(const uint8_t *packet, size_t n)
 {
     if (n == 0)
         return REFUSAL(19);
-    switch (packet[0] >> 6) {
-    case 0:
-        return packet[0] < 2 ? 0 : packet[0] < 20 ? 3 : 1;
-    case 2:
-        return 2;
-    default:
-        return 3;
-    }
+    if (packet[0] < 4)
+        return STUN;
+    if (packet[0] < 16)
+        return OTHER;
+    if (packet[0] < 20)
+        return ZRTP;
+    if (packet[0] < 64)
+        return DTLS;
+    if (packet[0] < 80)
+        return CHANNEL;
+    if (packet[0] < 128)
+        return OTHER;
+    if (packet[0] < 192)
+        return MEDIA;
+    return OTHER;
 }
 
 /* ------------------------------------------------------ RFC 9185, section 6 */

@@ -1,6 +1,6 @@
-/* The rules of document 01 for sorting, messages and the tag, and of document 02 for the status page, in C, written from
- * the papers alone. With coverage by the fuzzer's compiler, which the library does not have, they also show it the way
- * to new answers. */
+/* The rules of document 01 for messages and the tag, and of document 02 for sorting and the status page, in C, written
+ * from the papers alone. With coverage by the fuzzer's compiler, which the library does not have, they also show it the
+ * way to new answers. */
 #ifndef PAPER_H
 #define PAPER_H
 

@@ -1,1 +1,2 @@
 pub mod SortingLaws
+pub mod Ranges

@@ -1,4 +1,4 @@
--- Laws of sorting: by the length, and that no octet behind the first matters.
+-- Laws of sorting, by the length of a packet.
 use Prim.Native.Nat.{ℕ}
 use mathlib.Core.Path.{_≡_, refl}
 use mathlib.Core.List.{List, [], _∷_}
@@ -16,8 +16,3 @@ pub by-first : (s : List ℕ) → (length s ≡ 0 → ⊥) → kind (kindOf (oct
 unfolding sorting
 by-first [] h = absurd (h refl)
 by-first (x ∷ s) h = refl
-
--- two packets with the same first octet are of the same kind
-pub first-decides : (x : ℕ) (s t : List ℕ) → sorting (x ∷ s) ≡ sorting (x ∷ t)
-unfolding sorting
-first-decides x s t = refl

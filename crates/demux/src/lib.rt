@@ -1,4 +1,4 @@
-// The kind of a packet by its first octet (RFC 5764, section 5.1.2).
+// The kind of a packet by its first octet (RFC 7983, section 7).
 mod sorting;
 
 pub use sorting::Kind;

@@ -4,7 +4,11 @@ ghost use Rattle.demux.specs.Sorting.{kindOf, sorting, answerOf};
 
 pub enum Kind {
     Stun,
+    // RFC 6189.
+    Zrtp,
     Dtls,
+    // TURN's ChannelData: RFC 8656, section 12.
+    TurnChannel,
     // RTP or RTCP.
     Rtp,
     Other,
@@ -21,8 +25,10 @@ pub fn kind_of(first: u8) -> Kind
     ensures { λ r. ⌜ r ≡ kindOf first ⌝ }
 {
     match first {
-        0..=1 => Kind::Stun,
+        0..=3 => Kind::Stun,
+        16..=19 => Kind::Zrtp,
         20..=63 => Kind::Dtls,
+        64..=79 => Kind::TurnChannel,
         128..=191 => Kind::Rtp,
         _ => Kind::Other,
     }

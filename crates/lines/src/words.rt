@@ -127,6 +127,10 @@ pub const RECORD_SALT: usize = 60;
 
 pub const RECORD_OCTETS: usize = 61;
 
+pub const ZRTP: usize = 62;
+
+pub const TURN_CHANNEL: usize = 63;
+
 pub fn say(n: usize) {
     print::text(pieces::piece(
         b"|: |\n| |[|]| octets|refusal |: yes\n|: no\n|STUN|DTLS|RTP|Other|sort first=|Short\
@@ -136,7 +140,7 @@ pub fn say(n: usize) {
         | server_key=| client_salt=| server_salt=| dtls=| at |written=| behind=| read back\
         |: same\n|: different\n|place |done|keys stored|delivery| endpoint=| start=| end=\
         |disconnected|version |found| keyed|  profile |  mki length=|  key length=\
-        |  salt length=| octets=",
+        |  salt length=| octets=|ZRTP|TURN channel",
         n,
     ));
 }

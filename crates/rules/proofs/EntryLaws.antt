@@ -7,11 +7,12 @@ use native.Mathlib.Omega.{arith}
 use borrow.Author.Tests.{lt-ltb, le-ltb, le-leb, lt-leb, eq-eqb, ne-eqb, eqb-false}
 use lib.Dec.{eqb}
 use lib.ListN.{length}
+use Rattle.octets.proofs.Tests.{by-size}
 use Rattle.rules.specs.Search.{someOf}
 use Rattle.rules.specs.Halving.{Spot, here, missing}
 use Rattle.rules.specs.Order.{Entry, insert}
 use Rattle.rules.proofs.Entries.{further, whereIs, endpoints, remove, insertAt, removeAt, inserting, removing, placeOf, placeWith}
-use Rattle.rules.proofs.Cases.{by-size, by-order, either-false, or-turn}
+use Rattle.rules.proofs.Cases.{by-order, either-false, or-turn}
 use Rattle.rules.proofs.HalvingLaws.{Over, Rising, over-less}
 
 -- some entry has the endpoint

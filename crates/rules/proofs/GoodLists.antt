@@ -7,10 +7,10 @@ use mathlib.Core.List.{List, [], _∷_}
 use native.Mathlib.Omega.{arith}
 use lib.Dec.{eqb}
 use borrow.Author.Tests.{eqb-true, eqb-false, not-true}
-use Rattle.octets.proofs.Tests.{both, false-true}
+use Rattle.octets.proofs.Tests.{both, false-true, by-test}
 use Rattle.message.specs.Profiles.{isProfile, entries, member, sound, goodList}
 use Rattle.rules.specs.SingleTests.{GoodList}
-use Rattle.rules.proofs.Cases.{by-test, either-false}
+use Rattle.rules.proofs.Cases.{either-false}
 use Rattle.rules.proofs.ListRoom.{good-list-room}
 
 -- a profile is one of two

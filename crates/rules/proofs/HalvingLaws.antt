@@ -6,9 +6,10 @@ use native.Mathlib.Omega.{arith}
 use native.Mathlib.Nat.{le-of-suc-le-suc, not-suc-le-zero}
 use borrow.Author.Tests.{lt-ltb, le-ltb, le-leb, lt-leb, eq-eqb, ne-eqb}
 use lib.ListN.{length, getD}
+use Rattle.octets.proofs.Tests.{by-size}
 use Rattle.rules.specs.Halving.{Spot, here, missing, nearer, halved, settled, halving, twoTo}
 use Rattle.rules.proofs.Entries.{further, whereIs}
-use Rattle.rules.proofs.Cases.{by-size, by-order}
+use Rattle.rules.proofs.Cases.{by-order}
 
 -- ---- round by round
 

@@ -10,12 +10,12 @@ use lib.Seq.{take-at}
 use Rattle.octets.specs.Number.{octetAt, number16At, octetsOf16}
 use Rattle.octets.specs.Write.{over}
 use Rattle.octets.proofs.HoldLaws.{Holds, holds-all, holds-two, holds-octet}
+use Rattle.octets.proofs.Tests.{by-size}
 use Rattle.rules.specs.Order.{Entry, entry}
 use Rattle.rules.specs.Limits.{places}
 use Rattle.rules.specs.Layout.{indexAt, indexPlacesAt, indexEndpointsAt, blockLength, padded}
 use Rattle.rules.specs.Index.{countOf, indexEndpoint, indexPlace, column, endpointOctets, placeOctets, indexOctets, entered, withdrawn, insertedAt, removedAt}
 use Rattle.rules.proofs.Entries.{endpoints, placesIn, insertAt, removeAt}
-use Rattle.rules.proofs.Cases.{by-size}
 use Rattle.rules.proofs.ChunkLaws.{replicate-add}
 use Rattle.rules.proofs.FieldLaws.{padded-length, holds-number16, holds-quad}
 use Rattle.rules.proofs.ShiftLaws.{over-at, entered-at, withdrawn-at}

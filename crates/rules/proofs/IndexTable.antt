@@ -8,6 +8,7 @@ use native.Mathlib.Omega.{arith}
 use native.Mathlib.Nat.{le-of-suc-le-suc, not-suc-le-zero}
 use borrow.Author.Tests.{lt-ltb}
 use lib.ListN.{length, getD, set, length-set}
+use Rattle.octets.proofs.Tests.{by-test}
 use Rattle.rules.specs.Search.{first, someOf}
 use Rattle.rules.specs.Halving.{Spot, here, missing, halving, twoTo}
 use Rattle.rules.specs.Order.{Entry, entry, insert, orderFrom, order}
@@ -15,7 +16,6 @@ use Rattle.rules.specs.Limits.{places, rounds}
 use Rattle.rules.specs.Index.{countOf, indexEndpoint, spot, placeAtSpot, entering, leaving, withEntry, withoutEntry}
 use Rattle.rules.specs.Table.{placeOfEndpoint}
 use Rattle.rules.proofs.Entries.{whereIs, endpoints, inserting, removing, placeOf, placeWith, serving, EndpointsDiffer}
-use Rattle.rules.proofs.Cases.{by-test}
 use Rattle.rules.proofs.RoundsEnough.{enough}
 use Rattle.rules.proofs.HalvingLaws.{Tells, Rising, where-tells, halving-finds}
 use Rattle.rules.proofs.EntryLaws.{length-insert, length-endpoints, inserting-there, removing-there, place-there}

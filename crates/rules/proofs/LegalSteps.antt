@@ -8,6 +8,7 @@ use native.Mathlib.Omega.{arith}
 use lib.ListN.{length, set, replicate, length-append}
 use Rattle.octets.specs.Write.{over}
 use Rattle.octets.proofs.WriteLaws.{over-length}
+use Rattle.octets.proofs.Tests.{by-test}
 use Rattle.rules.specs.Limits.{places}
 use Rattle.rules.specs.Layout.{rows, live, endpointOf, rowLength, indexAt, blockLength, vacantRow, withRow}
 use Rattle.rules.specs.Order.{orderFrom}
@@ -17,7 +18,6 @@ use Rattle.rules.specs.Table.{associationOf}
 use Rattle.rules.specs.View as Tunnel
 use Rattle.rules.specs.View.{AtPlace, inRow, view, endpointIn}
 use Rattle.rules.proofs.Entries.{EndpointsDiffer}
-use Rattle.rules.proofs.Cases.{by-test}
 use Rattle.rules.proofs.RowsLaws.{Sized, rows-length, rows-with, rows-front, over-front}
 use Rattle.rules.proofs.TunnelLaws.{tunnel-front}
 use Rattle.rules.proofs.IndexLaws.{index-length, index-empty}

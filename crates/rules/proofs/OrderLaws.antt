@@ -9,11 +9,11 @@ use borrow.Author.Tests.{eq-eqb, ne-eqb, eqb-true, eqb-false}
 use lib.Dec.{eqb}
 use lib.ListN.{length, getD, set, length-set}
 use lib.Seq.{getD-set-same}
-use Rattle.octets.proofs.Tests.{both}
+use Rattle.octets.proofs.Tests.{both, by-test}
 use Rattle.rules.specs.Search.{first, someOf}
 use Rattle.rules.specs.Order.{Entry, entry, insert, orderFrom, order}
 use Rattle.rules.proofs.Entries.{endpoints, remove, placeWith, serving, EndpointsDiffer}
-use Rattle.rules.proofs.Cases.{by-test, either-false}
+use Rattle.rules.proofs.Cases.{either-false}
 use Rattle.rules.proofs.HalvingLaws.{Rising}
 use Rattle.rules.proofs.EntryLaws.{has, insert-insert, has-insert, place-insert, rising-insert, remove-insert}
 

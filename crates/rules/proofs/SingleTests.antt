@@ -9,11 +9,11 @@ use lib.ListN.{length, length-append}
 use lib.Dec.{ltb}
 use borrow.Author.Tests.{lt-ltb, eq-eqb, ne-eqb, ltb-true, eqb-false, not-true}
 use Rattle.octets.specs.Number.{octetAt, octets16}
-use Rattle.octets.specs.Range.{within}
-use Rattle.octets.proofs.Tests.{by-choice, false-true}
-use Rattle.octets.proofs.RangeLaws.{inside, below, above}
+use Rattle.octets.proofs.Tests.{by-choice, false-true, by-size}
+use Rattle.octets.proofs.RangeLaws.{inside}
 use Rattle.demux.specs.Sorting as Sorting
 use Rattle.demux.specs.declared.sorting.Kind.{Kind}
+use Rattle.demux.proofs.Ranges.{ranges}
 use Rattle.status.specs.declared.entry.Entry.{Entry}
 use Rattle.status.specs.Page.{layout}
 use Rattle.status.proofs.PageLaws.{layout-length}
@@ -24,7 +24,6 @@ use Rattle.rules.specs.Limits.{packetLimit}
 use Rattle.rules.specs.Refusals as Refusals
 use Rattle.rules.specs.Refusals.{isDtlsKind}
 use Rattle.rules.specs.SingleTests.{SingleTests}
-use Rattle.rules.proofs.Cases.{by-size}
 use Rattle.rules.proofs.GoodLists.{good-list-means}
 
 -- ---- 20
@@ -34,33 +33,30 @@ width-means i = (λ h. eqb-false _ _ (not-true _ h), λ h. rw (ne-eqb _ _ h))
 
 -- ---- 14
 
-dtls-first : (x : ℕ) → 20 ≤ x → x ≤ 63 → isDtlsKind (Sorting.kindOf x) ≡ true
-unfolding Sorting.kindOf
-dtls-first x h k = simp (above 0 1 x (omega arith), inside 20 63 x h k)
-
--- every other first octet
+-- a first octet that is not DTLS's
 abbrev Outside : ℕ → Type 0
 Outside x = (x < 20) ⊎ (63 < x)
 
-misses : (x : ℕ) → Outside x → within 20 63 x ≡ false
-misses x (inl h) = below 20 63 x h
-misses x (inr h) = above 20 63 x h
+outside : (x : ℕ) → isDtlsKind (Sorting.kindOf x) ≡ false → Outside x
+outside x h = by-size x 20 inl (λ a. by-size 63 x inr (λ b. absurd (false-true (sym h ∙ ap isDtlsKind (ranges .exactly Kind.Dtls x .1 (a, b))))))
 
-other-first : (x : ℕ) → Outside x → isDtlsKind (Sorting.kindOf x) ≡ false
-unfolding Sorting.kindOf
-other-first x o =
-    let P : Kind → Type 0 = λ k. isDtlsKind k ≡ false in
-    by-choice P (within 0 1 x) _ _ (λ _. refl) (λ _. rw (misses x o) (by-choice P (within 128 191 x) _ _ (λ _. refl) (λ _. refl)))
-
-first-outside : (x : ℕ) → isDtlsKind (Sorting.kindOf x) ≡ false → Outside x
-first-outside x h = by-size x 20 inl (λ a. by-size 63 x inr (λ b. absurd (false-true (sym h ∙ dtls-first x a b))))
+-- the kind of such an octet is not DTLS
+other-kind : (k : Kind) (x : ℕ) → Sorting.kindOf x ≡ k → Outside x → isDtlsKind k ≡ false
+other-kind Kind.Stun x e o = refl
+other-kind Kind.Zrtp x e o = refl
+other-kind Kind.Dtls x e o =
+    let d = ranges .exactly Kind.Dtls x .0 e in
+    ⊎-elim (λ h. absurd (omega arith)) (λ h. absurd (omega arith)) o
+other-kind Kind.TurnChannel x e o = refl
+other-kind Kind.Rtp x e o = refl
+other-kind Kind.Other x e o = refl
 
 not-dtls-means : (packet : List ℕ) → (Refusals.notDtls packet ≡ true) ↔ ((length packet ≡ 0) ⊎ Outside (octetAt packet 0))
 unfolding Refusals.notDtls Sorting.sorting
 not-dtls-means [] = (λ h. inl refl, λ h. refl)
 not-dtls-means (x ∷ l) = (
-  λ h. inr (first-outside x (not-true _ h)),
-  ⊎-elim (λ e. absurd (omega arith)) (λ o. ap not (other-first x o)),
+  λ h. inr (outside x (not-true _ h)),
+  ⊎-elim (λ e. absurd (omega arith)) (λ o. ap not (other-kind (Sorting.kindOf x) x refl o)),
 )
 
 -- ---- 15

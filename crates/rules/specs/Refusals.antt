@@ -30,7 +30,9 @@ noRoomForPage entries room = ltb room (length (layout entries))
 -- 14: the packet is empty or not DTLS
 abbrev pub isDtlsKind : Kind → Bool
 isDtlsKind Kind.Stun = false
+isDtlsKind Kind.Zrtp = false
 isDtlsKind Kind.Dtls = true
+isDtlsKind Kind.TurnChannel = false
 isDtlsKind Kind.Rtp = false
 isDtlsKind Kind.Other = false
 

@@ -1,4 +1,4 @@
--- The single tests of Refusals, good lists, the messages that calls write and the number of places, in other words, with the numbers of the request, of document 01 ("Sorting a packet", "Tunnel messages", "Refusal numbers") and of document 02, order 1: what the theorems in proofs/ say of them.
+-- The single tests of Refusals, good lists, the messages that calls write and the number of places, in other words, with the numbers of the request, of document 01 ("Tunnel messages", "Refusal numbers") and of document 02, orders 1 and 3: what the theorems in proofs/ say of them.
 use Prim.Native.Nat.{ℕ, _+_, _*_, _-_, _/_, _≤_, _<_}
 use mathlib.Core.Path.{_≡_}
 use mathlib.Core.Logic.{_↔_, _⊎_}

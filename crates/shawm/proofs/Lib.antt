@@ -4,6 +4,7 @@ pub mod FieldsMatch
 pub mod SplitLimits
 pub mod TagMatches
 pub mod TopBit
+pub mod SortTells
 pub mod WriteLaws
 pub mod PageLaws
 pub mod PageMatches

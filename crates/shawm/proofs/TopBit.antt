@@ -41,6 +41,8 @@ kind-top-bit Kind.Stun = omega arith
 kind-top-bit Kind.Dtls = omega arith
 kind-top-bit Kind.Rtp = omega arith
 kind-top-bit Kind.Other = omega arith
+kind-top-bit Kind.Zrtp = omega arith
+kind-top-bit Kind.TurnChannel = omega arith
 
 pub sort-top-bit : (packet : List ℕ) → SortTopBit (Sort.sorting packet)
 unfolding Sort.sorting

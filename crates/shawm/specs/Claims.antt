@@ -1,11 +1,14 @@
 -- What the theorems in proofs/ say of the answers.
 use Prim.Native.Nat.{ℕ, _+_, _-_, _/_, _%_, _≤_, _<_}
 use mathlib.Core.Path.{_≡_}
+use mathlib.Core.Logic.{_↔_}
 use mathlib.Core.List.{List, [], _∷_}
 use lib.ListN.{length}
 use Rattle.octets.specs.Bounds.{nowhere, partIn}
 use Rattle.octets.specs.declared.parts.Bounds.{Bounds}
 use Rattle.demux.specs.Sorting as Sort
+use Rattle.demux.specs.Ranges.{InRange}
+use Rattle.demux.specs.declared.sorting.Kind.{Kind}
 use Rattle.message.specs.Message.{Message, supportedProfiles, unsupportedVersion, mediaKeys, tunneledDtls, endpointDisconnect}
 use Rattle.message.specs.Read as Read
 use Rattle.message.specs.Parts.{meaning, field}
@@ -24,6 +27,20 @@ use Rattle.shawm.specs.Fields.{fieldBounds}
 use Rattle.shawm.specs.Writing.{writeNumber}
 use Rattle.shawm.specs.Tag.{tagType}
 use Rattle.shawm.specs.Page.{countNumber, entryNumber, endpointNumber}
+
+-- ---- sorting
+
+-- a number is answered for the first octets of one kind and for no others
+abbrev pub Tells : (number : ℕ) → Kind → Type 0
+Tells number k = (first : ℕ) (rest : List ℕ) → (sortNumber (Sort.sorting (first ∷ rest)) ≡ number) ↔ InRange k first
+
+pub record SortNumbers : Type 0 where
+  pub stun : Tells 0 Kind.Stun
+  pub dtls : Tells 1 Kind.Dtls
+  pub rtp : Tells 2 Kind.Rtp
+  pub other : Tells 3 Kind.Other
+  pub zrtp : Tells 4 Kind.Zrtp
+  pub turnChannel : Tells 5 Kind.TurnChannel
 
 -- ---- bounds
 

@@ -15,6 +15,8 @@ fn kind_number(kind: Kind) -> u32
         Kind::Dtls => 1,
         Kind::Rtp => 2,
         Kind::Other => 3,
+        Kind::Zrtp => 4,
+        Kind::TurnChannel => 5,
     }
 }
 

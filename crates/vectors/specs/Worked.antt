@@ -1,10 +1,10 @@
--- The worked octets of document 01 that it marks P, in one table: what the definitions that the calls promise give on them, and the written meaning.
+-- The worked octets of document 01 that it marks P, with P10 replaced as document 02, order 3, asks, in one table: what the definitions that the calls promise give on them, and the written meaning.
 use Prim.Native.Nat.{ℕ}
 use mathlib.Core.Path.{_≡_}
 use mathlib.Core.List.{List, [], _∷_, map}
 use lib.ListN.{length}
 use Rattle.demux.specs.Sorting.{sorting, kind}
-use Rattle.demux.specs.declared.sorting.Kind.the-variants.{Stun, Dtls, Rtp, Other}
+use Rattle.demux.specs.declared.sorting.Kind.the-variants.{Stun, Zrtp, Dtls, TurnChannel, Rtp, Other}
 use Rattle.ekt.specs.Claims.{Splits}
 use Rattle.ekt.specs.Splitting as Splitting
 use Rattle.rules.specs.Answer.{Answer, refused, moreNeeded, wrote, version}
@@ -41,9 +41,10 @@ pub record Worked : Type 0 where
   pub p7 : Receives (0x06 ∷ 0x00 ∷ 0x00 ∷ []) (refused 3 3) started
   pub p8 : Receives (0x01 ∷ 0x00 ∷ 0x00 ∷ []) (refused 4 3) started
   pub p9 : Receives (0x05 ∷ 0x00 ∷ 0x00 ∷ []) (refused 5 3) started
-  -- whatever stands behind the first octet
-  pub p10 : (rest : List ℕ) → map (λ first. sorting (first ∷ rest)) (1 ∷ 2 ∷ 19 ∷ 20 ∷ 63 ∷ 64 ∷ 127 ∷ 128 ∷ 191 ∷ 192 ∷ [])
-      ≡ map kind (Stun ∷ Other ∷ Other ∷ Dtls ∷ Dtls ∷ Other ∷ Other ∷ Rtp ∷ Rtp ∷ Other ∷ [])
+  -- first octets on both sides of every limit, whatever stands behind them
+  pub p10 : (rest : List ℕ)
+      → map (λ first. sorting (first ∷ rest)) (0 ∷ 3 ∷ 4 ∷ 15 ∷ 16 ∷ 19 ∷ 20 ∷ 63 ∷ 64 ∷ 79 ∷ 80 ∷ 127 ∷ 128 ∷ 191 ∷ 192 ∷ 255 ∷ [])
+      ≡ map kind (Stun ∷ Stun ∷ Other ∷ Other ∷ Zrtp ∷ Zrtp ∷ Dtls ∷ Dtls ∷ TurnChannel ∷ TurnChannel ∷ Other ∷ Other ∷ Rtp ∷ Rtp ∷ Other ∷ Other ∷ [])
   -- the answer; then the front, the ciphertext and the extension's data
   pub p11 : Splits (0xAA ∷ 0x12 ∷ 0x34 ∷ 0x00 ∷ 0x01 ∷ 0x00 ∷ 0x08 ∷ 0x02 ∷ []) (Splitting.full 0x1234 1 0 1) [] (0xAA ∷ []) []
   pub p12 : Splits (0x00 ∷ []) (Splitting.short 0) [] [] []

@@ -43,7 +43,9 @@ fn sorted(packet: &[u8]) {
 fn named(kind: Kind) {
     match kind {
         Kind::Stun => say(words::STUN),
+        Kind::Zrtp => say(words::ZRTP),
         Kind::Dtls => say(words::DTLS),
+        Kind::TurnChannel => say(words::TURN_CHANNEL),
         Kind::Rtp => say(words::RTP),
         Kind::Other => say(words::OTHER),
     }

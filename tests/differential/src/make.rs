@@ -38,7 +38,8 @@ fn packet(random: &mut Random) -> Vec<u8> {
     let n = random.pick(&[0, 1, 1, 2, 3, 12, 40, 1500]);
     let mut packet = random.octets(n);
     if n > 0 && random.once_in(2) {
-        packet[0] = random.pick(&[0, 1, 2, 19, 20, 22, 63, 64, 127, 128, 191, 192, 255]);
+        // Both sides of every limit.
+        packet[0] = random.pick(&[0, 3, 4, 15, 16, 19, 20, 63, 64, 79, 80, 127, 128, 191, 192, 255]);
     }
     packet
 }

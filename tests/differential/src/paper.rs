@@ -1,6 +1,6 @@
-//! The rules of sorting, messages and the tag, written from RFC 9185, RFC 8870, RFC 5764 and document 01
-//! alone. Nothing here is taken from the library; every number below stands in one of those papers. Those of the status
-//! page are in page.rs.
+//! The rules of sorting, messages and the tag, written from RFC 9185, RFC 8870, RFC 7983 (sorting) and documents 01 and
+//! 02 alone. Nothing here is taken from the library; every number below stands in one of those papers, and the kinds'
+//! own in shawm.h. Those of the status page are in page.rs.
 //!
 //! Each answer comes with a `Why`, finer than the answer, by which the tally sees that every branch of the
 //! papers was reached.
@@ -35,6 +35,8 @@ whys! {
     SortDtls,
     SortRtp,
     SortOther,
+    SortZrtp,
+    SortTurnChannel,
     ReadNoHeader,
     ReadSupportedProfiles,
     ReadUnsupportedVersion,
@@ -97,18 +99,23 @@ whys! {
     PageEndpointTwice,
 }
 
-// ---------------------------------------------------------------- RFC 5764, section 5.1.2
+// ---------------------------------------------------------------- RFC 7983, section 7
 
-/// STUN 0, DTLS 1, RTP or RTCP 2, Other 3.
+/// STUN 0, DTLS 1, RTP or RTCP 2, Other 3, ZRTP 4, TURN channel 5.
 pub fn sort(packet: &[u8]) -> (Answer, Why) {
-    // Figure 3 of RFC 5764: 127 < B < 192, 19 < B < 64, B < 2.
-    match packet.first() {
-        None => (Answer::Refused(19), Why::SortEmpty),
-        Some(&b) if 127 < b && b < 192 => (Answer::Value(2), Why::SortRtp),
-        Some(&b) if 19 < b && b < 64 => (Answer::Value(1), Why::SortDtls),
-        Some(&b) if b < 2 => (Answer::Value(0), Why::SortStun),
-        Some(_) => (Answer::Value(3), Why::SortOther),
-    }
+    let Some(first) = packet.first() else {
+        return (Answer::Refused(19), Why::SortEmpty);
+    };
+    // The ranges as document 02 lists them.
+    let (kind, why) = match first {
+        0..=3 => (0, Why::SortStun),
+        16..=19 => (4, Why::SortZrtp),
+        20..=63 => (1, Why::SortDtls),
+        64..=79 => (5, Why::SortTurnChannel),
+        128..=191 => (2, Why::SortRtp),
+        _ => (3, Why::SortOther),
+    };
+    (Answer::Value(kind), why)
 }
 
 // ---------------------------------------------------------------- RFC 9185, section 6, reading

@@ -165,9 +165,7 @@ impl Cover {
             Answer::Written(_) => self.case("packet written, first octet", usize::from(frame[5])),
             Answer::Refused { number: 15, .. } if length == PACKET_LIMIT + 1 => self.case("packet one too long", 0),
             Answer::Refused { number: 14, .. } if length == 0 => self.case("empty packet", 0),
-            Answer::Refused { number: 14, .. } if [19, 64].contains(&frame[5]) => {
-                self.case("just not DTLS", usize::from(frame[5]))
-            }
+            Answer::Refused { number: 14, .. } => self.case("packet not DTLS, first octet", usize::from(frame[5])),
             _ => {}
         }
     }

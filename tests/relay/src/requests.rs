@@ -137,10 +137,10 @@ impl Requests {
         self.rng.octets(&mut octets, length);
         if length > 0 {
             octets[4] = match self.rng.below(16) {
-                0 => self.rng.pick(&[0, 1, 2, 19, 64, 127, 128, 191, 192, 255]),
-                1 => self.rng.next() as u8,
-                2 => 20,
-                3 => 63,
+                0 => self.rng.pick(&[0, 3, 4, 15, 16, 19, 64, 79, 80, 127, 128, 191, 192, 255]),
+                1..=2 => self.rng.next() as u8,
+                3 => 20,
+                4 => 63,
                 _ => self.rng.range(20, 63) as u8,
             };
         }
