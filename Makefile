@@ -4,7 +4,8 @@
 # make vectors      run the worked octets and print each answer
 # make check        prove what changed and run the programs
 # make fmt          lay the sources out
-# make bench        ns per call of the distributor's calls, the branches of their search, their stack: docs/BENCHMARKS.md
+# make bench        ns per call of the distributor's calls, the branches of their search, their stack; ns per block and
+#                   per wrapping: docs/BENCHMARKS.md
 # make relay        target/bin/relay, the program that holds the table: docs/RELAY.md
 # make examples     build/branch, a daemon in C; build/branch-demo, the same with the demo's control socket
 #
@@ -13,7 +14,9 @@
 # make install      the same four below PREFIX (/usr/local), inside DESTDIR; make uninstall takes them away
 # make outside      the tests by programs that share nothing with the proofs, as the gate runs them
 # make soak         random comparisons for SOAK_SECONDS (600), from SEED (1) on
+# make constant-time  what time, memory and stack tell of a key or a plaintext: wants Debian's valgrind
 # make faults       wrong libraries, each of which the tests must find
+# make edits        more wrong programs, each of which the prover must refuse
 # make branch-faults  wrong branches, each of which the tests must find
 # make screen-faults  wrong screens, each of which the tests must find
 # make test-screen  what the screen shows in a browser, with pictures in build/screen: wants Debian's chromium
@@ -21,7 +24,7 @@
 # make fuzz         libFuzzer for FUZZ_SECONDS (60): wants Debian's clang
 # make test-tshark  what tshark says of the captured packets, against what is stored: wants Debian's tshark
 # make clean        remove what was built
-.PHONY: demo screen test vectors check fmt bench relay examples lib install uninstall outside soak faults branch-faults screen-faults test-screen test-clang fuzz test-tshark clean
+.PHONY: demo screen test vectors check fmt bench relay examples lib install uninstall outside soak constant-time faults edits branch-faults screen-faults test-screen test-clang fuzz test-tshark clean
 
 PREFIX ?= /usr/local
 DESTDIR ?=
@@ -48,11 +51,12 @@ check:
 fmt:
 	rt fmt
 
-bench:
+bench: build/libshawm.a
 	rt staticlib measure
-	bench/run
+	bench/run bench
 	bench/branches
 	bench/stack
+	bench/run wrap
 
 relay: target/bin/relay
 
@@ -111,8 +115,16 @@ outside:
 soak: lib
 	bash tests/differential/run --seconds $(SOAK_SECONDS) --seed $(SEED)
 
+constant-time: lib
+	@command -v valgrind > /dev/null || { echo 'wants: apt-get install valgrind'; exit 1; }
+	bash tests/constant_time/run
+	bash tests/constant_time/remnants
+
 faults:
 	python3 tests/faults/run
+
+edits:
+	tests/edits/run
 
 branch-faults: build/libshawm.a build/libshawm.so target/bin/relay
 	python3 tests/branch/faults

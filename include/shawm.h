@@ -8,10 +8,13 @@
  *   write   writes each of the five tunnel messages from its fields
  *   tag     finds the EKT tag at the end of a media packet (RFC 8870,
  *           section 4.1), and says where its parts are
+ *   wrap    encrypts an EKT plaintext under an EKT key, and unwrap opens an EKT
+ *           ciphertext: AESKW128, the AES key wrap with padding (RFC 5649)
  *   page    reads a status page: which places of the table are taken, by which
  *           endpoints, and which of them have keys
  *
- * What it does not: open sockets, speak TLS or DTLS, encrypt, or look at a clock.
+ * What it does not: open sockets, speak TLS or DTLS, encrypt media, or look at a
+ * clock.
  *
  * How to call it
  *   Octets are lent: a pointer, then how many octets stand there. A pointer with
@@ -28,12 +31,12 @@
  *   Every function answers for every input. There is nothing to check before.
  *
  * How to read an answer
- *   A uint32_t from shawm_sort, shawm_read, shawm_tag, shawm_page_count,
- *   shawm_page_entry or one of the writers is a refusal exactly when its top bit,
- *   SHAWM_REFUSED, is set; its low octet is then the refusal's number (enum
- *   shawm_refusal). The bits between are 0 today and may
- *   come to say more, so take the number with shawm_refusal_number. A refused call
- *   writes nothing.
+ *   A uint32_t from shawm_sort, shawm_read, shawm_tag, shawm_wrap, shawm_unwrap,
+ *   shawm_page_count, shawm_page_entry or one of the writers is a refusal exactly
+ *   when its top bit, SHAWM_REFUSED, is set; its low octet is then the refusal's
+ *   number (enum shawm_refusal). The bits between are 0 today and may come to say
+ *   more, so take the number with shawm_refusal_number. A refused call writes
+ *   nothing.
  *
  *       uint32_t answer = shawm_sort(packet, n);
  *       if (shawm_is_refusal(answer))
@@ -80,9 +83,18 @@ extern "C" {
 /* The longest status page: 6 bits and 38 for each place, in whole octets. */
 #define SHAWM_PAGE_LIMIT 153
 
-/* Refusal numbers. The functions below give 2, 3, 5, 13, 18, 19, 20 and 29. The others
- * belong to the table of associations, which is not called from C; they are
- * listed so that a number in a log has a name. Where more than one fits, the
+/* A key to wrap and unwrap with: this many octets. */
+#define SHAWM_WRAP_KEY_OCTETS 16
+
+/* The longest plaintext that is wrapped, and the longest that is unwrapped. */
+#define SHAWM_PLAINTEXT_LIMIT 240
+
+/* The longest ciphertext: eight octets and the longest plaintext. */
+#define SHAWM_CIPHERTEXT_LIMIT (8 + SHAWM_PLAINTEXT_LIMIT)
+
+/* Refusal numbers. The functions below give 2, 3, 5, 13, 18, 19, 20, 22, 29, 33 and
+ * 34. The others belong to the table of associations, which is not called from C; they
+ * are listed so that a number in a log has a name. Where more than one fits, the
  * function's comment says which is given. */
 enum shawm_refusal {
     SHAWM_TUNNEL_DOWN = 1,          /* the tunnel is down */
@@ -105,7 +117,10 @@ enum shawm_refusal {
     SHAWM_NO_TAG = 18,              /* no EKT tag of the grammar ends this packet */
     SHAWM_EMPTY_PACKET = 19,        /* empty packet to sort */
     SHAWM_IDENTIFIER_LENGTH = 20,   /* identifier not of SHAWM_IDENTIFIER_OCTETS */
-    SHAWM_NOT_A_PAGE = 29           /* octets that no table's page has, or a page without that entry */
+    SHAWM_BAD_CIPHERTEXT = 22,      /* ciphertext that no plaintext of 1 to SHAWM_PLAINTEXT_LIMIT octets wraps to */
+    SHAWM_NOT_A_PAGE = 29,          /* octets that no table's page has, or a page without that entry */
+    SHAWM_PLAINTEXT_LENGTH = 33,    /* plaintext to be wrapped empty or over SHAWM_PLAINTEXT_LIMIT */
+    SHAWM_EKT_KEY_OR_SALT_LENGTH = 34  /* key to wrap or unwrap with not of SHAWM_WRAP_KEY_OCTETS (or a salt, in calls to come) */
 };
 
 /* 1 if an answer is a refusal, 0 if not. */
@@ -276,6 +291,45 @@ enum shawm_tag_field {
 
 /* The value of a number of a Full tag; 0 where there is none. */
 uint32_t shawm_tag_number(const uint8_t *packet, size_t n, uint32_t field);
+
+/* -------------------------------------- wrapping and unwrapping an EKT plaintext */
+
+/* RFC 8870's cipher AESKW128: AES-128 (FIPS 197) in the key wrap with padding of
+ * RFC 5649. Any octets are wrapped; the layout of an EKT plaintext is not looked at.
+ *
+ * What the time of a call and the memory that it touches may tell: the lengths that
+ * are lent; of an unwrapping also whether something wraps to the ciphertext, and how
+ * many octets that is. Nothing else of the key or the plaintext; this is tested, and
+ * not proved as the answers are.
+ *
+ * A call clears what it worked with. While shawm_wrap runs, out holds the plaintext:
+ * lend no memory that others read.
+ * The key and the plaintext remain yours to clear, the one in out as well. */
+
+/* Writes the ciphertext of the plaintext under the key at the front of out and
+ * answers how many octets that are: the plaintext's, rounded up to whole eights, and
+ * eight more; 16 to SHAWM_CIPHERTEXT_LIMIT. Octets of out behind them keep their
+ * values. Refused, in this order:
+ *   SHAWM_EKT_KEY_OR_SALT_LENGTH  key_n is not SHAWM_WRAP_KEY_OCTETS
+ *   SHAWM_PLAINTEXT_LENGTH        plaintext_n is 0 or over SHAWM_PLAINTEXT_LIMIT
+ *   SHAWM_NO_ROOM                 out_n is smaller than the ciphertext
+ * A refused call leaves out as it was. */
+uint32_t shawm_wrap(const uint8_t *key, size_t key_n,
+                    const uint8_t *plaintext, size_t plaintext_n,
+                    uint8_t *out, size_t out_n);
+
+/* Writes the plaintext that wraps to this ciphertext under the key at the front of
+ * out and answers how many octets that are: 1 to SHAWM_PLAINTEXT_LIMIT. Octets of
+ * out behind them keep their values. Refused, in this order:
+ *   SHAWM_EKT_KEY_OR_SALT_LENGTH  key_n is not SHAWM_WRAP_KEY_OCTETS
+ *   SHAWM_BAD_CIPHERTEXT          no plaintext wraps to it: another length, another
+ *                                 key, or octets that were changed
+ *   SHAWM_NO_ROOM                 out_n is smaller than the plaintext
+ * A refused call leaves out as it was. Out needs room for the plaintext alone, never
+ * for its padding: ciphertext_n - 8 octets are always enough. */
+uint32_t shawm_unwrap(const uint8_t *key, size_t key_n,
+                      const uint8_t *ciphertext, size_t ciphertext_n,
+                      uint8_t *out, size_t out_n);
 
 /* ----------------------------------------------------- reading a status page */
 

@@ -85,6 +85,8 @@ int main(void)
     fields();
     writing();
     tag();
+    wrapping();
+    forging();
     page();
     pages();
     comfort();

@@ -45,6 +45,8 @@ void reading(void);
 void fields(void);
 void writing(void);
 void tag(void);
+void wrapping(void);
+void forging(void);
 void page(void);
 void pages(void);
 void comfort(void);

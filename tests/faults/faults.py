@@ -1,4 +1,5 @@
-"""The faults: a name, the file to be edited (paper.c or plain.c), what stands there once, and what replaces it."""
+"""The faults: a name, the file to be edited (paper.c or plain.c), what stands there once, and what replaces it; more
+edits, of the same file or with another, may follow. Those of wrapping and unwrapping are in faults_keywrap.py."""
 
 FAULTS = [
     # Sorting.

@@ -1,5 +1,5 @@
-/* The C interface by the rules of tests/fuzz/paper.c, in the place of the library. As it stands every test passes with
- * it; the faults are edits of this file or of paper.c, and a test that passes with one of them is no test. */
+/* The C interface by the rules in tests/fuzz, in the place of the library. As it stands every test passes with it; the
+ * faults are edits of this file or of those rules, and a test that passes with one of them is no test. */
 #include "paper.h"
 #include <shawm.h>
 #include <string.h>
@@ -153,4 +153,32 @@ uint32_t shawm_write_endpoint_disconnect(const uint8_t *id, size_t id_n, uint8_t
     struct paper_message m = message_of(5, id, id_n);
 
     return write_message(&m, out, out_n);
+}
+
+/* Longer than any plaintext or ciphertext, for those faults that take more than is right. */
+enum { TEXT = 512 };
+
+static uint32_t write_text(const uint8_t *text, uint32_t answer, uint8_t *out)
+{
+    size_t front = shawm_is_refusal(answer) ? 0 : answer;
+
+    if (front > 0)
+        memcpy(out, text, front);
+    return answer;
+}
+
+uint32_t shawm_wrap(const uint8_t *key, size_t key_n, const uint8_t *plaintext, size_t plaintext_n, uint8_t *out,
+                    size_t out_n)
+{
+    uint8_t text[TEXT];
+
+    return write_text(text, paper_wrap(key, key_n, plaintext, plaintext_n, out_n, text), out);
+}
+
+uint32_t shawm_unwrap(const uint8_t *key, size_t key_n, const uint8_t *ciphertext, size_t ciphertext_n, uint8_t *out,
+                      size_t out_n)
+{
+    uint8_t text[TEXT];
+
+    return write_text(text, paper_unwrap(key, key_n, ciphertext, ciphertext_n, out_n, text), out);
 }

@@ -1,6 +1,6 @@
-/* The rules of document 01 for messages and the tag, and of document 02 for sorting and the status page, in C, written
- * from the papers alone. With coverage by the fuzzer's compiler, which the library does not have, they also show it the
- * way to new answers. */
+/* The rules of document 01 for messages and the tag, and of document 02 for sorting, the status page and the key wrap,
+ * in C, written from the papers alone. With coverage by the fuzzer's compiler, which the library does not have, they
+ * also show it the way to new answers. */
 #ifndef PAPER_H
 #define PAPER_H
 
@@ -50,5 +50,11 @@ struct paper_tag paper_split(const uint8_t *packet, size_t n);
 struct paper_page paper_show(const uint8_t *page, size_t n);
 /* Writes into out, which has room for 4,099 octets, what a call with an output of room octets must write. */
 answer paper_write(const struct paper_message *message, size_t room, uint8_t *out);
+
+/* In keywrap.c. Out has room for 248 octets, and for 240. */
+answer paper_wrap(const uint8_t *key, size_t key_n, const uint8_t *plaintext, size_t n, size_t room, uint8_t *out);
+answer paper_unwrap(const uint8_t *key, size_t key_n, const uint8_t *ciphertext, size_t n, size_t room, uint8_t *out);
+/* Makes a ciphertext of two registers or more, whatever stands in them. */
+void paper_close(const uint8_t *key, uint8_t *text, size_t n);
 
 #endif

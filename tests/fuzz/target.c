@@ -1,70 +1,13 @@
 /* One input for the library, compared with paper.c. The first octet chooses the calls:
  *   0 sorting, reading, the tag and the status page, of the rest of the input
  *   1 to 5 the writer of that type: see message_of below
+ *   6 wrapping, 7 and 8 unwrapping: see target_keywrap.c
  * Any other value is taken modulo 6. Each stretch is lent twice: ending at a closed page, and beginning behind one. */
+#include "lent.h"
 #include "paper.h"
 #include "target.h"
 #include <shawm.h>
-#include <stdio.h>
-#include <stdlib.h>
 #include <string.h>
-#include <sys/mman.h>
-
-#define PAGE ((size_t)4096)
-#define LARGEST ((size_t)20 * PAGE)   /* of one lent stretch */
-
-const char *input_name = "the input";
-
-static void disagree(const char *asked, size_t number, size_t library, size_t paper)
-{
-    fprintf(stderr, "DISAGREEMENT on %s: %s of %zu: library %zx, papers %zx\n", input_name, asked, number, library, paper);
-    abort();
-}
-
-#define AGREE(asked, number, library, paper)                     \
-    do {                                                         \
-        size_t answered = (library), written = (paper);          \
-        if (answered != written)                                 \
-            disagree((asked), (number), answered, written);      \
-    } while (0)
-
-/* ------------------------------------------------------- lent stretches */
-
-enum { STRETCHES = 7, OUT = 6 };
-static uint8_t *memory[STRETCHES];
-static int at_end;
-
-static void reserve(void)
-{
-    int i;
-
-    for (i = 0; i < STRETCHES; i++) {
-        void *base = mmap(NULL, LARGEST + 2 * PAGE, PROT_NONE, MAP_PRIVATE | MAP_ANONYMOUS, -1, 0);
-
-        if (base == MAP_FAILED || mprotect((uint8_t *)base + PAGE, LARGEST, PROT_READ | PROT_WRITE) != 0)
-            abort();
-        memory[i] = (uint8_t *)base + PAGE;
-    }
-}
-
-static uint8_t *place(int i, size_t n)
-{
-    return at_end ? memory[i] + LARGEST - n : n == 0 ? NULL : memory[i];
-}
-
-static const uint8_t *lend(int i, const uint8_t *octets, size_t n)
-{
-    uint8_t *at = place(i, n);
-
-    if (n > 0)
-        memcpy(at, octets, n);
-    return at;
-}
-
-static void unchanged(const uint8_t *lent, const uint8_t *octets, size_t n)
-{
-    AGREE("octets changed", n, n > 0 && memcmp(lent, octets, n) != 0, 0);
-}
 
 /* --------------------------------------------- sorting, reading, tag, page */
 
@@ -206,26 +149,16 @@ static uint32_t by_library(const struct paper_message *m, uint8_t *out, size_t r
     }
 }
 
-/* Every octet has this value: the first has, and each is as the one before. */
-static int all(const uint8_t *octets, size_t n, uint8_t value)
-{
-    return octets[0] == value && memcmp(octets, octets + 1, n - 1) == 0;
-}
-
 static void compare_writer(int type, const uint8_t *data, size_t size)
 {
     static uint8_t wanted[4099];
     size_t room, i;
     struct paper_message m = message_of(type, data, size, &room);
-    uint8_t poison = (uint8_t)(0xA5 ^ size), *out = place(OUT, room);
+    uint8_t poison = (uint8_t)(0xA5 ^ size), *out = poisoned(room, poison);
     answer paper = paper_write(&m, room, wanted);
-    size_t front = paper >> 31 ? 0 : paper;
 
-    if (room > 0)
-        memset(out, poison, room);
     AGREE("writer", (size_t)type, by_library(&m, out, room), paper);
-    AGREE("octets written", front, front > 0 && memcmp(out, wanted, front) != 0, 0);
-    AGREE("octets behind", front, room > front && !all(out + front, room - front, poison), 0);
+    written(out, room, poison, wanted, paper >> 31 ? 0 : paper);
     unchanged(m.id, source, m.id_n);
     for (i = 0; i < 5; i++)
         unchanged(m.fields[i], source + i, m.lengths[i]);
@@ -233,12 +166,13 @@ static void compare_writer(int type, const uint8_t *data, size_t size)
 
 int LLVMFuzzerTestOneInput(const uint8_t *data, size_t size)
 {
-    if (memory[0] == NULL)
-        reserve();
+    reserve();
     if (size == 0 || size > LARGEST)
         return 0;
     for (at_end = 0; at_end <= 1; at_end++) {
-        if (data[0] % 6 == 0)
+        if (data[0] >= 6 && data[0] <= 8)
+            compare_keywrap(data[0], data + 1, size - 1);
+        else if (data[0] % 6 == 0)
             compare_octets(data + 1, size - 1);
         else
             compare_writer(data[0] % 6, data + 1, size - 1);

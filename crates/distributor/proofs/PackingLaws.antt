@@ -6,12 +6,12 @@ use native.Mathlib.Omega.{arith}
 use native.Mathlib.Nat.{add-mul, mul-assoc, add-assoc, add-zero, mod-lt, lt-of-lt-of-le}
 use native.Mathlib.Numerals.{add-one}
 use lib.Pow.{pow-add, pow-mono, pow-pos, high, low, mod-pow-add, mod-mod-pow, shl-exact}
-use lib.ListN.{length, set, take, drop, length-append, length-set, take-append-drop, List·getD-eq-default}
-use lib.Seq.{take-suc-set, drop-set-lt, drop-drop, getD-take, length-take-le}
-use Rattle.octets.specs.Number.{Octets}
+use lib.ListN.{length, set, take, drop, length-append, length-set, take-append-drop}
+use lib.Seq.{take-suc-set, drop-set-lt, drop-drop, length-take-le}
+use Rattle.octets.proofs.OctetLaws.{take-octets}
 use Rattle.status.specs.Bits.{bitsOf}
 use Rattle.status.specs.Claims.{joined}
-use Rattle.status.proofs.BitLaws.{either, length-bits, bits-add, below-add}
+use Rattle.status.proofs.BitLaws.{length-bits, bits-add, below-add}
 use Rattle.status.proofs.JoinedLaws.{joined-next, packed}
 use Rattle.distributor.specs.Packing.{wordBits, FourPut, Holds, Packed, Puts, Ends, Finishes}
 use Rattle.distributor.specs.declared.packing.Packing.{Packing}
@@ -190,12 +190,6 @@ last-turn first number out end p left h i j k =
     (stored out (end - left) (p / 2 ^ (left * 8 - 8) % 256) (omega arith))
     (drop-set-lt (end - left + 1) out (end - left) (p / 2 ^ (left * 8 - 8) % 256) (omega arith))))
 
-octets-taken : (s : List ℕ) (n : ℕ) → Octets s → n ≤ length s → Octets (take n s)
-octets-taken s n o h i =
-    either i n
-    (λ k. subst (λ (x : ℕ). x < 256) (sym (getD-take n s i 0 k)) (o i))
-    (λ k. subst (λ (x : ℕ). x < 256) (sym (List·getD-eq-default (take n s) 0 (rw (length-take-le n s h) k))) (omega arith))
-
 module _ (old : List ℕ) (w : Packing) (end : ℕ) (e : Ends old w end) (p : ℕ)
     (q : p ≡ w .pending % 2 ^ wordBits * 2 ^ ((end - w .at) * 8 - w .bits) % 2 ^ 64) where
   abbrev fill : ℕ
@@ -227,5 +221,5 @@ module _ (old : List ℕ) (w : Packing) (end : ℕ) (e : Ends old w end) (p : �
       let k : end ≤ length new = omega (arith, e .room) in
       let l = length-take-le end new k in
       let j : joined 0 (take end new) ≡ c .number * 2 ^ fill = omega (arith, h .whole) in
-      let t = packed bits (c .number) fill (c .spelled) (c .below) (omega (arith, e .filling, e .all)) (take end new) (octets-taken new end o k) (omega (arith, l, c .width, e .all)) j in
+      let t = packed bits (c .number) fill (c .spelled) (c .below) (omega (arith, e .filling, e .all)) (take end new) (take-octets end new o) (omega (arith, l, c .width, e .all)) j in
       sym (take-append-drop end new) ∙ ap₂ (λ (x y : List ℕ). x ++ y) t (h .behind)

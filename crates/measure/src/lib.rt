@@ -171,3 +171,27 @@ pub extern "C" fn measure_look(state: &[u8; BLOCK], endpoint: u32, out: &mut [u8
         }
     }
 }
+
+// The key schedule of AES-128.
+#[no_mangle]
+pub extern "C" fn measure_expand(key: &[u8; 16], w: &mut [u8; 176]) {
+    let k = *key;
+    let schedule = aes::expand(k);
+    *w = schedule;
+}
+
+// A block in place, enciphered with a schedule.
+#[no_mangle]
+pub extern "C" fn measure_encrypt(w: &[u8; 176], block: &mut [u8; 16]) {
+    let b = *block;
+    let c = aes::encrypt_block(w, b);
+    *block = c;
+}
+
+// A block in place, deciphered with a schedule.
+#[no_mangle]
+pub extern "C" fn measure_decrypt(w: &[u8; 176], block: &mut [u8; 16]) {
+    let b = *block;
+    let c = aes::decrypt_block(w, b);
+    *block = c;
+}

@@ -1,5 +1,5 @@
 -- An answer stays where more octets are lent behind, and behind any octets there can be such that reading asks for no more.
-use Prim.Native.Nat.{ℕ, zero, suc, _+_, _≤_}
+use Prim.Native.Nat.{ℕ, _+_, _≤_}
 use mathlib.Core.Path.{_≡_, refl, sym, ap, subst, _∙_}
 use mathlib.Core.Bool.{Bool, true, false, cond}
 use mathlib.Core.List.{List, [], _∷_, _++_}
@@ -7,7 +7,7 @@ use native.Mathlib.Omega.{arith}
 use lib.ListN.{length, length-append, replicate, length-replicate}
 use lib.Dec.{ltb, eqb}
 use borrow.Author.Tests.{le-ltb, ltb-false}
-use Rattle.octets.specs.Number.{octetAt, number16At, Octets}
+use Rattle.octets.specs.Number.{octetAt, number16At}
 use Rattle.octets.specs.Part.{part}
 use Rattle.octets.proofs.Tests.{by-choice}
 use Rattle.message.specs.Limits.{width, bodyLimit, header}
@@ -19,6 +19,7 @@ use Rattle.message.specs.Body.{Content, content, supportedProfiles, medi
 use Rattle.message.specs.Read.{Answer, moreNeeded, refused, accepted, bodyAnswer, frameAnswer, reading}
 use Rattle.message.specs.Claims.{lentMore, Ended}
 use Rattle.message.specs.declared.framing.Kind.{Kind}
+use Rattle.octets.proofs.OctetLaws.{zeros-octets}
 use Rattle.octets.proofs.LongerLaws.{same-octet, same-number, same-part}
 use Rattle.message.proofs.FrameSays.{KindSays, whole-type, FrameSays, frame-says}
 
@@ -126,11 +127,6 @@ enough-told s h =
 -- a header and the longest body always have an answer
 pub enough-answers : (s : List ℕ) → header + bodyLimit ≤ length s → reading s ≡ moreNeeded → ⊥
 enough-answers s h e = subst Told e (enough-told s h)
-
-zeros-octets : (n : ℕ) → Octets (replicate n 0)
-zeros-octets zero at = omega arith
-zeros-octets (suc n) zero = omega arith
-zeros-octets (suc n) (suc at) = zeros-octets n at
 
 ended-by : (s : List ℕ) (n : ℕ) → header + bodyLimit ≤ n → Ended s
 ended-by s n h = record {

@@ -4,7 +4,7 @@ use mathlib.Core.Path.{_≡_, refl}
 use mathlib.Core.Bool.{Bool, true, false, not, _&&_}
 use mathlib.Core.List.{List, [], _∷_}
 use native.Mathlib.Omega.{arith}
-use borrow.Author.Tests.{ltb-true, ltb-false}
+use borrow.Author.Tests.{ltb-true, ltb-false, not-false}
 use lib.Dec.{ltb, eqb}
 use lib.ListN.{length, getD}
 use Rattle.octets.specs.Number.{Octets}
@@ -20,6 +20,11 @@ use Rattle.message.specs.declared.bodies.Fields.{Fields}
 use Rattle.message.specs.declared.bodies.Fields.the-variants.{SupportedProfiles, UnsupportedVersion, MediaKeys, TunneledDtls, EndpointDisconnect}
 use Rattle.message.proofs.AnswerLaws.{encode-length}
 use Rattle.ekt.specs.Splitting as Split
+use Rattle.octets.specs.Range.{within}
+use Rattle.keywrap.specs.Limits.{keyLength, plaintextMost}
+use Rattle.keywrap.specs.Padding.{wrap, accepted, unwrap}
+use Rattle.keywrap.specs.Calls as KeyWrap
+use Rattle.keywrap.proofs.Accepted.{wrapped-few, unwrapped-few}
 use Rattle.octets.specs.Part.{same}
 use Rattle.status.specs.Limits.{places}
 use Rattle.status.specs.Entries.{good, stateOf}
@@ -30,7 +35,7 @@ use Rattle.status.proofs.PageLaws.{decoded-length}
 use Rattle.status.proofs.ReadLaws.{page-few}
 use Rattle.shawm.specs.Numbers.{numberIn, fieldNumber}
 use Rattle.shawm.specs.Tag.{spiOrEpoch, tagNumber}
-use Rattle.shawm.specs.Claims.{SortTopBit, ReadTopBit, WriteTopBit, TagTopBit, CountTopBit, EntryTopBit}
+use Rattle.shawm.specs.Claims.{SortTopBit, ReadTopBit, WriteTopBit, TagTopBit, WrapTopBit, CountTopBit, EntryTopBit}
 use Rattle.shawm.proofs.ReadLimits.{ReadLimits, reading-limits}
 use Rattle.shawm.proofs.SplitLimits.{SplitLimits, splitting-limits}
 
@@ -90,6 +95,25 @@ write-top-bit m room =
     by-choice WriteTopBit (ltb bodyLimit (length (encodeBody m))) _ _ (λ _. (refl, omega arith)) (λ small.
     by-choice WriteTopBit (ltb room (length (encode m))) _ _ (λ _. (refl, omega arith)) (λ _.
     omega (arith, encode-length m, ltb-false bodyLimit (length (encodeBody m)) small)))))
+
+-- ---- wrapping and unwrapping
+
+module _ (key : List ℕ) (ok : Octets key) (room : ℕ) where
+  pub wrap-top-bit : (p : List ℕ) → Octets p → WrapTopBit (KeyWrap.wrapping key p room)
+  unfolding KeyWrap.wrapping
+  wrap-top-bit p op =
+      by-choice WrapTopBit (not (eqb (length key) keyLength)) _ _ (λ _. (refl, omega arith)) (λ _.
+      by-choice WrapTopBit (not (within 1 plaintextMost (length p))) _ _ (λ _. (refl, omega arith)) (λ w.
+      by-choice WrapTopBit (ltb room (length (wrap key p))) _ _ (λ _. (refl, omega arith)) (λ _.
+      omega (arith, wrapped-few key ok p op (not-false _ w)))))
+
+  pub unwrap-top-bit : (c : List ℕ) → Octets c → WrapTopBit (KeyWrap.unwrapping key c room)
+  unfolding KeyWrap.unwrapping
+  unwrap-top-bit c oc =
+      by-choice WrapTopBit (not (eqb (length key) keyLength)) _ _ (λ _. (refl, omega arith)) (λ _.
+      by-choice WrapTopBit (not (accepted key c)) _ _ (λ _. (refl, omega arith)) (λ a.
+      by-choice WrapTopBit (ltb room (length (unwrap key c))) _ _ (λ _. (refl, omega arith)) (λ _.
+      omega (arith, unwrapped-few key ok c oc (not-false _ a)))))
 
 -- ---- splitting
 

@@ -26,6 +26,8 @@ use Rattle.shawm.specs.Reading.{readNumber}
 use Rattle.shawm.specs.Fields.{fieldBounds}
 use Rattle.shawm.specs.Writing.{writeNumber}
 use Rattle.shawm.specs.Tag.{tagType}
+use Rattle.keywrap.specs.Calls as KeyWrap
+use Rattle.shawm.specs.Wrapping.{wrapNumber}
 use Rattle.shawm.specs.Page.{countNumber, entryNumber, endpointNumber}
 
 -- ---- sorting
@@ -134,6 +136,10 @@ TagTopBit (Split.refused number) = IsRefusal (tagType (Split.refused number)) nu
 TagTopBit (Split.short start) = tagType (Split.short start) < topBit
 TagTopBit (Split.full spi epoch start end) = tagType (Split.full spi epoch start end) < topBit
 TagTopBit (Split.extension messageType start end) = tagType (Split.extension messageType start end) < topBit
+
+abbrev pub WrapTopBit : KeyWrap.Answer → Type 0
+WrapTopBit (KeyWrap.refused number) = IsRefusal (wrapNumber (KeyWrap.refused number)) number
+WrapTopBit (KeyWrap.written count) = wrapNumber (KeyWrap.written count) < topBit
 
 abbrev pub CountTopBit : Counted → Type 0
 CountTopBit (Counted.refused number) = IsRefusal (countNumber (Counted.refused number)) number

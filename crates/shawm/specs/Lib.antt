@@ -6,4 +6,5 @@ pub mod Numbers
 pub mod Writing
 pub mod Tag
 pub mod Page
+pub mod Wrapping
 pub mod Claims

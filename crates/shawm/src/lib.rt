@@ -1,6 +1,6 @@
-// The C interface: sorting packets, reading and writing tunnel messages, splitting the EKT tag and
-// reading a status page, on numbers and lent octets. Each export gives a number for what a crate below
-// answers.
+// The C interface: sorting packets, reading and writing tunnel messages, splitting the EKT tag, wrapping and
+// unwrapping the EKT plaintext and reading a status page, on numbers and lent octets. Each export gives a number
+// for what a crate below answers.
 mod fields;
 mod numbers;
 mod page;
@@ -8,6 +8,7 @@ mod reading;
 mod refusal;
 mod sorting;
 mod tag;
+mod wrapping;
 mod writing;
 
 pub use fields::shawm_field_length;
@@ -23,6 +24,8 @@ pub use tag::shawm_tag;
 pub use tag::shawm_tag_length;
 pub use tag::shawm_tag_number;
 pub use tag::shawm_tag_start;
+pub use wrapping::shawm_unwrap;
+pub use wrapping::shawm_wrap;
 pub use writing::shawm_write_endpoint_disconnect;
 pub use writing::shawm_write_media_keys;
 pub use writing::shawm_write_supported_profiles;

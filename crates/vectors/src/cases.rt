@@ -1,5 +1,7 @@
 // A case is a line: the library, the call, the octets that it is given, a bar, the text of the case.
 // The octets stand in brackets, before the bar or in the text. Any other line is a remark.
+use crate::blocks;
+use crate::keys;
 use crate::pages;
 use crate::profiles;
 use crate::reading;
@@ -43,8 +45,10 @@ fn case(state: &mut [u8; BLOCK], line: &[u8]) {
 
 fn ask(state: &mut [u8; BLOCK], line: &[u8], given: &[u8]) {
     match octets::octet(line, 0) {
+        b'a' => blocks::case(line, given),
         b'd' => sorting::case(line, given),
         b'e' => tags::case(line, given),
+        b'k' => keys::case(line, given),
         b'r' => reading::case(line, given),
         b'w' => writing::case(line, given),
         b'p' => profiles::case(line, given),

@@ -1,7 +1,9 @@
 // Worked octets and limits of documents 01 and 02, run through the libraries. Standard input holds the cases,
 // one in a line; each is written out again with what the library answered.
+mod blocks;
 mod cases;
 mod example;
+mod keys;
 mod messages;
 mod outcomes;
 mod outputs;

@@ -14,19 +14,21 @@ pub enum Case {
     MediaKeys { id: Vec<u8>, profile: u16, fields: [Vec<u8>; 5], room: usize },
     TunneledDtls { id: Vec<u8>, dtls: Vec<u8>, room: usize },
     EndpointDisconnect { id: Vec<u8>, room: usize },
+    Wrap { key: Vec<u8>, plaintext: Vec<u8>, room: usize },
+    Unwrap { key: Vec<u8>, ciphertext: Vec<u8>, room: usize },
 }
 
 use Case::*;
 
 /// Octets as hex, none as `-`.
-fn hex(octets: &[u8]) -> String {
+pub fn hex(octets: &[u8]) -> String {
     if octets.is_empty() {
         return "-".to_string();
     }
     octets.iter().map(|o| format!("{o:02x}")).collect()
 }
 
-fn from_hex(text: &str) -> Option<Vec<u8>> {
+pub fn from_hex(text: &str) -> Option<Vec<u8>> {
     if text == "-" {
         return Some(Vec::new());
     }
@@ -53,6 +55,8 @@ impl std::fmt::Display for Case {
             }
             TunneledDtls { id, dtls, room } => write!(f, "write-tunneled-dtls {room} {} {}", hex(id), hex(dtls)),
             EndpointDisconnect { id, room } => write!(f, "write-endpoint-disconnect {room} {}", hex(id)),
+            Wrap { key, plaintext, room } => write!(f, "wrap {room} {} {}", hex(key), hex(plaintext)),
+            Unwrap { key, ciphertext, room } => write!(f, "unwrap {room} {} {}", hex(key), hex(ciphertext)),
         }
     }
 }
@@ -85,6 +89,12 @@ pub fn parse(line: &str) -> Option<Case> {
         },
         ["write-tunneled-dtls", room, id, dtls] => {
             TunneledDtls { id: from_hex(id)?, dtls: from_hex(dtls)?, room: room.parse().ok()? }
+        }
+        ["wrap", room, key, plaintext] => {
+            Wrap { key: from_hex(key)?, plaintext: from_hex(plaintext)?, room: room.parse().ok()? }
+        }
+        ["unwrap", room, key, ciphertext] => {
+            Unwrap { key: from_hex(key)?, ciphertext: from_hex(ciphertext)?, room: room.parse().ok()? }
         }
         ["write-endpoint-disconnect", room, id] => EndpointDisconnect { id: from_hex(id)?, room: room.parse().ok()? },
         _ => return None,

@@ -2,21 +2,24 @@
 //! answers, the octets that it wrote, those behind them, and the octets that it was lent to read.
 
 use crate::case::Case;
+use crate::keywrap;
 use crate::lent::{Edge, Memory};
 use crate::library::*;
 use crate::page;
 use crate::paper::{self, Why};
 use crate::random::Random;
+use crate::third::Third;
 
-/// The longest stretch of a case: one profile or one octet more than two length octets can say.
-pub const LONGEST: usize = 65_538;
+/// The longest stretch of a case: a key longer than two octets can say, whose length has the low bits of a right one.
+pub const LONGEST: usize = 65_536 + 16;
 /// The largest output of a case.
 pub const LARGEST: usize = LONGEST + 128;
 
-/// What was asked, and the two answers.
+/// What was asked, and the two answers: `who` is the library, or OpenSSL.
 pub struct Disagreement {
     pub asked: String,
-    pub library: String,
+    pub who: &'static str,
+    pub answer: String,
     pub paper: String,
 }
 
@@ -28,6 +31,7 @@ pub struct Bench {
     poison: Vec<u8>,
     /// Answers of the library that were compared.
     pub answers: u64,
+    pub third: Third,
 }
 
 /// Of every field and part number that the interface knows, and those between and around them.
@@ -42,6 +46,7 @@ impl Bench {
             out: Memory::new(LARGEST),
             poison: Random::new(0x0DD).octets(LARGEST + 256),
             answers: 0,
+            third: Third::new(),
         }
     }
 
@@ -189,6 +194,7 @@ impl Bench {
         for (i, input) in inputs.iter().enumerate() {
             unchanged("a lent stretch", lent[i], input)?;
         }
+        self.third.agree(case, &expected)?;
         Ok(why)
     }
 
@@ -202,7 +208,8 @@ impl Bench {
         if library == paper {
             return Ok(());
         }
-        Err(Disagreement { asked: asked(), library: format!("{library:?}"), paper: format!("{paper:?}") })
+        let (answer, paper) = (format!("{library:?}"), format!("{paper:?}"));
+        Err(Disagreement { asked: asked(), who: "library", answer, paper })
     }
 }
 
@@ -215,11 +222,13 @@ fn by_paper(case: &Case) -> paper::Written {
         }
         Case::TunneledDtls { id, dtls, room } => paper::write_tunneled_dtls(id, dtls, *room),
         Case::EndpointDisconnect { id, room } => paper::write_endpoint_disconnect(id, *room),
+        Case::Wrap { key, plaintext, room } => keywrap::wrap(key, plaintext, *room),
+        Case::Unwrap { key, ciphertext, room } => keywrap::unwrap(key, ciphertext, *room),
         Case::Sort { .. } | Case::Read { .. } | Case::Tag { .. } | Case::Page { .. } => unreachable!("not a writer"),
     }
 }
 
-/// The stretches that a writer reads, in the order of its parameters, and the length of its output.
+/// The stretches that a call reads, in the order of its parameters, and the length of its output.
 fn stretches(case: &Case) -> (Vec<&[u8]>, usize) {
     match case {
         Case::SupportedProfiles { list, room, .. } => (vec![list], *room),
@@ -229,6 +238,8 @@ fn stretches(case: &Case) -> (Vec<&[u8]>, usize) {
         }
         Case::TunneledDtls { id, dtls, room } => (vec![id, dtls], *room),
         Case::EndpointDisconnect { id, room } => (vec![id], *room),
+        Case::Wrap { key, plaintext, room } => (vec![key, plaintext], *room),
+        Case::Unwrap { key, ciphertext, room } => (vec![key, ciphertext], *room),
         Case::Sort { .. } | Case::Read { .. } | Case::Tag { .. } | Case::Page { .. } => unreachable!("not a writer"),
     }
 }
@@ -261,6 +272,10 @@ fn by_library(case: &Case, lent: &[*const u8; 6], out: *mut u8) -> u32 {
                 shawm_write_tunneled_dtls(lent[0], id.len(), lent[1], dtls.len(), out, *room)
             }
             Case::EndpointDisconnect { id, room } => shawm_write_endpoint_disconnect(lent[0], id.len(), out, *room),
+            Case::Wrap { key, plaintext, room } => shawm_wrap(lent[0], key.len(), lent[1], plaintext.len(), out, *room),
+            Case::Unwrap { key, ciphertext, room } => {
+                shawm_unwrap(lent[0], key.len(), lent[1], ciphertext.len(), out, *room)
+            }
             Case::Sort { .. } | Case::Read { .. } | Case::Tag { .. } | Case::Page { .. } => {
                 unreachable!("not a writer")
             }
@@ -295,7 +310,8 @@ fn equal(asked: impl FnOnce() -> String, library: &[u8], paper: &[u8]) -> Outcom
     let first = library.iter().zip(paper).position(|(a, b)| a != b).unwrap();
     Err(Disagreement {
         asked: format!("{}, at {first}", asked()),
-        library: format!("{:02x}", library[first]),
+        who: "library",
+        answer: format!("{:02x}", library[first]),
         paper: format!("{:02x}", paper[first]),
     })
 }

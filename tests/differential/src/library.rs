@@ -50,6 +50,22 @@ extern "C" {
     pub fn shawm_page_count(page: *const u8, n: usize) -> u32;
     pub fn shawm_page_entry(page: *const u8, n: usize, number: usize) -> u32;
     pub fn shawm_page_endpoint(page: *const u8, n: usize, number: usize) -> u32;
+    pub fn shawm_wrap(
+        key: *const u8,
+        key_length: usize,
+        plaintext: *const u8,
+        plaintext_length: usize,
+        out: *mut u8,
+        room: usize,
+    ) -> u32;
+    pub fn shawm_unwrap(
+        key: *const u8,
+        key_length: usize,
+        ciphertext: *const u8,
+        ciphertext_length: usize,
+        out: *mut u8,
+        room: usize,
+    ) -> u32;
 }
 
 /// An answer as a number of the interface: the top bit and the refusal's number in the low octet, or the value.

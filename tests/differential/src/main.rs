@@ -4,20 +4,28 @@
 //!     differential --seconds T [--seed S]     random cases for so long, block after block
 //!     differential replay 'LINE'              one case, as a disagreement prints it; without LINE, from standard input
 
+mod aes;
 mod case;
 mod compare;
+mod keywrap;
+mod known;
 mod lent;
 mod library;
 mod make;
+mod make_keywrap;
 mod make_page;
+mod openssl;
 mod page;
 mod paper;
 mod random;
 mod stop;
 mod sweep;
+mod sweep_keywrap;
 mod sweep_page;
 mod tally;
+mod third;
 mod vast;
+mod vast_keywrap;
 
 use compare::{Bench, Disagreement};
 use lent::Edge;
@@ -81,6 +89,7 @@ fn search(options: Options) {
     let begin = std::time::Instant::now();
     let mut bench = Bench::new();
     stop::within_seconds(60);
+    known::all(&mut bench).unwrap_or_else(|(line, d)| disagree(&line, d));
     sweep::all(&mut bench).unwrap_or_else(|(line, d)| disagree(&line, d));
     println!("sweeps: {} answers agree, {:.1} s", bench.answers, begin.elapsed().as_secs_f32());
 
@@ -101,7 +110,8 @@ fn search(options: Options) {
         std::process::exit(1);
     }
     let seconds = begin.elapsed().as_secs_f32();
-    println!("{cases} random cases of seed {}, {} answers agree, {seconds:.1} s", options.seed, bench.answers);
+    let third = bench.third.summary();
+    println!("{cases} random cases of seed {}, {} answers agree, {seconds:.1} s; {third}", options.seed, bench.answers);
 }
 
 fn run_block(bench: &mut Bench, tally: &mut Tally, seed: u64, n: u64) {
@@ -119,9 +129,9 @@ fn run_block(bench: &mut Bench, tally: &mut Tally, seed: u64, n: u64) {
 }
 
 fn disagree(line: &str, disagreement: Disagreement) -> ! {
-    let Disagreement { asked, library, paper } = disagreement;
+    let Disagreement { asked, who, answer, paper } = disagreement;
     eprintln!(
-        "DISAGREEMENT: {asked}\n  library: {library}\n  papers:  {paper}\n  the case, for differential replay:\n{line}"
+        "DISAGREEMENT: {asked}\n  {who}: {answer}\n  papers:  {paper}\n  the case, for differential replay:\n{line}"
     );
     std::process::exit(1)
 }

@@ -1,6 +1,7 @@
 //! Makes cases: random, laid out by the papers, damaged, and at the limits.
 
 use crate::case::Case;
+use crate::make_keywrap;
 use crate::make_page;
 use crate::random::Random;
 
@@ -8,6 +9,10 @@ pub fn case(random: &mut Random) -> Case {
     // A page has more answers than the others, so there are fewer of them.
     if random.once_in(80) {
         return make_page::page(random);
+    }
+    // A key wrap takes longer than the others.
+    if random.once_in(100) {
+        return make_keywrap::case(random);
     }
     match random.below(20) {
         0 => Case::Sort { packet: packet(random) },
@@ -243,8 +248,8 @@ fn tagged(random: &mut Random) -> Vec<u8> {
 
 // ---------------------------------------------------------------- messages to be written
 
-/// The room for a message that needs `need` octets.
-fn room(random: &mut Random, need: usize) -> usize {
+/// The room for an output that needs `need` octets.
+pub fn room(random: &mut Random, need: usize) -> usize {
     match random.below(8) {
         0 => need.saturating_sub(1),
         1 => random.below(need.min(64) + 1),

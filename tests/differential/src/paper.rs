@@ -1,6 +1,6 @@
 //! The rules of sorting, messages and the tag, written from RFC 9185, RFC 8870, RFC 7983 (sorting) and documents 01 and
 //! 02 alone. Nothing here is taken from the library; every number below stands in one of those papers, and the kinds'
-//! own in shawm.h. Those of the status page are in page.rs.
+//! own in shawm.h. The rules of the status page are in page.rs, those of the key wrap in keywrap.rs.
 //!
 //! Each answer comes with a `Why`, finer than the answer, by which the tally sees that every branch of the
 //! papers was reached.
@@ -97,6 +97,23 @@ whys! {
     PagePlaceTwice,
     PagePlaceFalls,
     PageEndpointTwice,
+    WrapOneBlock,
+    WrapRegisters,
+    WrapKeyLength,
+    WrapEmpty,
+    WrapLong,
+    WrapNoRoom,
+    UnwrapOneBlock,
+    UnwrapRegisters,
+    UnwrapKeyLength,
+    UnwrapShort,
+    UnwrapLong,
+    UnwrapNotRegisters,
+    UnwrapMark,
+    UnwrapLengthLow,
+    UnwrapLengthHigh,
+    UnwrapPadding,
+    UnwrapNoRoom,
 }
 
 // ---------------------------------------------------------------- RFC 7983, section 7

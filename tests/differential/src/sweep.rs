@@ -1,11 +1,12 @@
 //! Whole ranges, without chance: every header, every length of tag, every first octet, every length of a list and of
 //! DTLS octets to behind the limit, and five lengths of each field of MediaKeys in every combination; of the status page
-//! in sweep_page.rs.
+//! in sweep_page.rs, of the key wrap in sweep_keywrap.rs.
 
 use crate::case::Case;
 use crate::compare::{Bench, Disagreement};
 use crate::lent::{Edge, Memory};
 use crate::stop;
+use crate::sweep_keywrap;
 use crate::sweep_page;
 
 /// What a sweep was at when it ended early, as a line to be pasted.
@@ -20,7 +21,8 @@ pub fn all(bench: &mut Bench) -> Swept {
     keys(bench)?;
     sweep_page::lengths(bench)?;
     sweep_page::bits(bench)?;
-    sweep_page::numbers(bench)
+    sweep_page::numbers(bench)?;
+    sweep_keywrap::all(bench)
 }
 
 pub fn run(bench: &mut Bench, case: Case) -> Swept {

@@ -4,6 +4,7 @@ use crate::compare::{Bench, Disagreement};
 use crate::lent::{Edge, Memory};
 use crate::library::*;
 use crate::paper;
+use crate::vast_keywrap;
 
 const VAST: usize = 1 << 32;
 
@@ -34,7 +35,7 @@ pub fn all(bench: &mut Bench) -> Result<(), Disagreement> {
         key_too_long(bench, lent, &id)?;
         room_for_all(bench, at, n, &id)?;
     }
-    Ok(())
+    vast_keywrap::all(bench)
 }
 
 /// A field of `n` octets where a field with the low bits of `n` would be accepted.

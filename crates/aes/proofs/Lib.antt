@@ -1,0 +1,15 @@
+pub mod Xor
+pub mod Xtime
+pub mod Below
+pub mod SBox
+pub mod Linear
+pub mod Mix
+pub mod StateLaws
+pub mod Steps
+pub mod Entries
+pub mod Filled
+pub mod Rcon
+pub mod ScheduleLaws
+pub mod Inverse
+pub mod CircuitLaws
+pub mod MixLaws

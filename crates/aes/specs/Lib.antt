@@ -1,0 +1,6 @@
+pub mod Field
+pub mod State
+pub mod KeyExpansion
+pub mod Cipher
+pub mod Circuit
+pub mod Columns
