@@ -1,4 +1,6 @@
 // Total functions on lent octets, for every crate above: no caller has to look first.
+#![tactic(auto)]
+
 mod parts;
 mod reading;
 pub mod refusal;
