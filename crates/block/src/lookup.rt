@@ -11,14 +11,14 @@ ghost use Rattle.block.specs.Spots.{spot_of};
 use crate::layout::{BLOCK, HALVINGS, INDEX, INDEX_ENDPOINTS, INDEX_PLACES, PLACES};
 
 // Where an endpoint stands in the index, or where it would.
-#[derive(Drop)]
+#[derive(Clone, Copy)]
 pub enum Spot {
     Here { at: usize },
     Missing { at: usize },
 }
 
 // The position in the index that halving leaves, and how many endpoints it looked at.
-#[derive(Drop)]
+#[derive(Clone, Copy)]
 pub struct Halved {
     pub at: usize,
     pub looked: usize,
@@ -26,7 +26,7 @@ pub struct Halved {
 
 // The place of an endpoint's row, or the number of places; and the rounds that the search took, each of which compared one
 // stored endpoint.
-#[derive(Drop)]
+#[derive(Clone, Copy)]
 pub struct Lookup {
     pub place: usize,
     pub rounds: usize,

@@ -2,7 +2,7 @@
 ghost use Rattle.std.specs.Prelude.{◌≡◌};
 ghost use Rattle.demux.specs.Sorting.{kind_of, sorting, answer_of};
 
-#[derive(Drop)]
+#[derive(Clone, Copy)]
 pub enum Kind {
     Stun,
     // RFC 6189.
@@ -16,7 +16,7 @@ pub enum Kind {
 }
 
 // What sorting answers. An empty packet is refusal 19.
-#[derive(Drop)]
+#[derive(Clone, Copy)]
 pub enum Sorted {
     Empty,
     Packet(Kind),

@@ -1,7 +1,7 @@
 // Whether a call is allowed, by its refusals in their order.
 ghost use Rattle.std.specs.Prelude.{◌≡◌};
 
-#[derive(Drop)]
+#[derive(Clone, Copy)]
 pub enum Check {
     // At the association's place, or the vacant one that an opening takes; Start has none: 0.
     Allowed { place: usize },

@@ -7,7 +7,7 @@ use crate::storing::put_down;
 use block::{BLOCK, is_up};
 use octets::refusal;
 
-#[derive(Drop)]
+#[derive(Clone, Copy)]
 pub enum Ended {
     Refused { number: u8 },
     Done,

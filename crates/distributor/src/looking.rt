@@ -12,7 +12,7 @@ use rows::layout::{
 use rows::{array16, array32, endpoint_of};
 
 // Key fields, padded with zeros behind their lengths.
-#[derive(Drop)]
+#[derive(Clone, Copy)]
 pub struct RecordKeys {
     pub profile: u16,
     pub mki_length: u8,
@@ -29,7 +29,7 @@ pub struct RecordKeys {
 
 // A whole record. The key fields are zero while the association is open, and all is zero beside a
 // refusal.
-#[derive(Drop)]
+#[derive(Clone, Copy)]
 pub struct Record {
     pub keyed: bool,
     pub identifier: [u8; 16],
@@ -37,13 +37,13 @@ pub struct Record {
     pub keys: RecordKeys,
 }
 
-#[derive(Drop)]
+#[derive(Clone, Copy)]
 pub enum Found {
     Refused { number: u8 },
     Here,
 }
 
-#[derive(Drop)]
+#[derive(Clone, Copy)]
 pub struct Looked {
     pub answer: Found,
     pub record: Record,

@@ -10,7 +10,7 @@ use block::{BLOCK, PLACES, is_taken, is_up, place_of_identifier, vacant_place};
 use message::limits::WIDTH;
 use octets::refusal;
 
-#[derive(Drop)]
+#[derive(Clone, Copy)]
 pub enum Opened {
     Refused { number: u8 },
     At { place: usize },

@@ -5,7 +5,7 @@ ghost use Rattle.status.specs.Bits.{bits_of};
 ghost use Rattle.distributor.specs.Packing.{word_bits, FourPut, Puts, Room, Moved, Ends, Finishes};
 
 // `at` octets are written, and the lowest `bits` bits of `pending` wait. Those above them do not count.
-#[derive(Drop)]
+#[derive(Clone, Copy)]
 pub struct Packing {
     pub at: usize,
     pub pending: u64,

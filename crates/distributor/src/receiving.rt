@@ -18,7 +18,7 @@ use message::{Body, Fields, Frame, KeyLengths, Kind};
 use octets::{Bounds, refusal};
 use rows::endpoint_of;
 
-#[derive(Drop)]
+#[derive(Clone, Copy)]
 pub enum Received {
     Refused {
         number: u8,

@@ -15,7 +15,7 @@ use octets::refusal;
 use rows::array16;
 use rows::layout::IDENTIFIER;
 
-#[derive(Drop)]
+#[derive(Clone, Copy)]
 pub enum Sent {
     Refused { number: u8 },
     Written { count: usize },

@@ -15,7 +15,7 @@ const FULL_TRAILER: u16 = 7;
 const EXTENSION_TRAILER: u16 = 3;
 
 // What the last octet says.
-#[derive(Drop)]
+#[derive(Clone, Copy)]
 enum Form {
     Short,
     Full,
@@ -26,7 +26,7 @@ enum Form {
 
 // A tag, with its bounds in the packet: the front is what stands before start, and the
 // ciphertext or the extension's data goes from start to end.
-#[derive(Drop)]
+#[derive(Clone, Copy)]
 pub enum Tag {
     // Refusal 18: no tag of the grammar ends this packet.
     NoTag,

@@ -12,7 +12,7 @@ use crate::limits::{CIPHERTEXT, KEY};
 use crate::loading::schedule;
 use crate::process::unwrap_registers;
 
-#[derive(Drop)]
+#[derive(Clone, Copy)]
 pub enum Unwrapped {
     KeyLength,
     BadCiphertext,

@@ -9,7 +9,7 @@ use crate::limits::{CIPHERTEXT, KEY, MOST};
 use crate::loading::{load, schedule, wrapped_length};
 use crate::process::wrap_registers;
 
-#[derive(Drop)]
+#[derive(Clone, Copy)]
 pub enum Wrapped {
     KeyLength,
     PlaintextLength,

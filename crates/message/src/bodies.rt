@@ -8,7 +8,7 @@ use crate::walking;
 use crate::walking::{BEGIN, Walk};
 
 // The length octets of MediaKeys.
-#[derive(Drop)]
+#[derive(Clone, Copy)]
 pub struct KeyLengths {
     pub mki: u8,
     pub client_key: u8,
@@ -18,7 +18,7 @@ pub struct KeyLengths {
 }
 
 // The numbers and lengths of a message's fields; `bounds_of` tells where they stand.
-#[derive(Drop)]
+#[derive(Clone, Copy)]
 pub enum Fields {
     SupportedProfiles { version: u8, list_length: u16 },
     UnsupportedVersion { version: u8 },
@@ -27,7 +27,7 @@ pub enum Fields {
     EndpointDisconnect,
 }
 
-#[derive(Drop)]
+#[derive(Clone, Copy)]
 pub enum Body {
     // Refusal 3.
     Unlisted,

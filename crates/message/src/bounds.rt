@@ -11,7 +11,7 @@ use crate::limits::{BEFORE_DTLS, BEFORE_LIST, HEADER, WIDTH};
 use crate::reading::{Read, read_message};
 use octets::{Bounds, NOWHERE};
 
-#[derive(Drop)]
+#[derive(Clone, Copy)]
 pub struct KeyBounds {
     pub mki: Bounds,
     pub client_key: Bounds,
@@ -21,7 +21,7 @@ pub struct KeyBounds {
 }
 
 // The bounds of every field; those of one that is not there are 0 and 0.
-#[derive(Drop)]
+#[derive(Clone, Copy)]
 pub struct FieldBounds {
     pub body: Bounds,
     pub identifier: Bounds,
@@ -30,7 +30,7 @@ pub struct FieldBounds {
     pub keys: KeyBounds,
 }
 
-#[derive(Drop)]
+#[derive(Clone, Copy)]
 pub enum Field {
     Body,
     Identifier,

@@ -7,7 +7,7 @@ ghost use Rattle.message.specs.Frame as Spec;
 use crate::limits::{BODY_LIMIT, HEADER};
 
 // What the type octet says.
-#[derive(Drop)]
+#[derive(Clone, Copy)]
 pub enum Kind {
     SupportedProfiles,
     UnsupportedVersion,
@@ -17,7 +17,7 @@ pub enum Kind {
     Unlisted,
 }
 
-#[derive(Drop)]
+#[derive(Clone, Copy)]
 pub enum Frame {
     MoreNeeded,
     // An UnsupportedVersion of length 0: refusal 5, three octets taken.

@@ -9,7 +9,7 @@ use crate::bodies::{Body, Fields, read_body};
 use crate::framing::{Frame, Kind, read_frame};
 use crate::limits::HEADER;
 
-#[derive(Drop)]
+#[derive(Clone, Copy)]
 pub enum Read {
     // Nothing taken.
     MoreNeeded,

@@ -3,7 +3,7 @@ ghost use Rattle.std.specs.Prelude.{◌≡◌};
 ghost use Rattle.message.specs.Walk as Spec;
 
 // Whether every field so far was good, and the offset in the body where the walk stands.
-#[derive(Drop)]
+#[derive(Clone, Copy)]
 pub struct Walk {
     pub good: bool,
     pub at: usize,

@@ -11,7 +11,7 @@ const HALF_WAY: u16 = 32768;
 const LAST_ROC: u32 = 4294967295;
 
 // The ROC tried, by the one that is kept.
-#[derive(Drop)]
+#[derive(Clone, Copy)]
 enum Neighbour {
     OneLess,
     Same,
@@ -19,7 +19,7 @@ enum Neighbour {
 }
 
 // What the estimate gives.
-#[derive(Drop)]
+#[derive(Clone, Copy)]
 pub enum Estimated {
     // Refusal 31: one less than ROC 0.
     NoSuchIndex,

@@ -6,7 +6,7 @@ ghost use Rattle.packetindex.specs.Estimating.{index_of};
 const SEQUENCE_COUNT: u64 = 65536;
 
 // The ROC, and the highest sequence number seen under it.
-#[derive(Drop)]
+#[derive(Clone, Copy)]
 pub struct Stream {
     pub roc: u32,
     pub highest: u16,

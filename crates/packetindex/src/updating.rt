@@ -6,7 +6,7 @@ use crate::estimating::{Estimated, estimate};
 use crate::stream::{Stream, index_of};
 
 // What an update gives. A refused one changes nothing: what was kept stays.
-#[derive(Drop)]
+#[derive(Clone, Copy)]
 pub enum Updated {
     // Refusal 31, as the estimate's.
     NoSuchIndex,

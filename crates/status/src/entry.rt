@@ -1,5 +1,5 @@
 // A live place of a table, as the page shows it.
-#[derive(Drop)]
+#[derive(Clone, Copy)]
 pub struct Entry {
     pub place: usize,
     pub keyed: bool,

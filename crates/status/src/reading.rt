@@ -11,7 +11,7 @@ use crate::limits::{COUNT_BITS, PLACES, octets_for, page_bits};
 use octets::octet;
 
 // What reading a page gives.
-#[derive(Drop)]
+#[derive(Clone, Copy)]
 pub enum Page {
     // Refusal 29: no table has these octets as its page.
     NotAPage,
@@ -20,7 +20,7 @@ pub enum Page {
 }
 
 // What reading an entry gives.
-#[derive(Drop)]
+#[derive(Clone, Copy)]
 pub enum Nth {
     // Refusal 29: there is no page, or none with such an entry.
     NotThere,

@@ -9,7 +9,7 @@ ghost use Rattle.writers.specs.Steps as Steps;
 use crate::putting;
 use message::limits::{BODY_LIMIT, HEADER, MOST_8, MOST_16, WIDTH};
 
-#[derive(Drop)]
+#[derive(Clone, Copy)]
 pub enum Write {
     // Refusal 20.
     IdentifierLength,
