@@ -1,5 +1,6 @@
 // The kind of a packet by its first octet (RFC 7983, section 7).
 #![tactic(auto)]
+
 mod sorting;
 
 pub use sorting::{Kind, Sorted, kind_of, sort};

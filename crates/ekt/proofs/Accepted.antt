@@ -17,7 +17,7 @@ use Rattle.octets.proofs.RangeLaws.{within_true}
 use Rattle.ekt.specs.Limits.{ciphertext_limit, data_limit, full_trailer, extension_trailer}
 use Rattle.ekt.specs.Grammar
 use Rattle.ekt.specs.Grammar.{IsTag, short_tag, full_tag, extension_tag}
-use Rattle.ekt.specs.Splitting.{Split, refused, short, full, extension, form_of, tag_length, length_fits, split_full, split_extension, split_form, splitting}
+use Rattle.ekt.specs.Splitting.{full, extension, form_of, tag_length, length_fits, split_full, split_extension, split_form, splitting}
 use Rattle.ekt.specs.declared.splitting.Form.{Form}
 use Rattle.ekt.specs.Claims.{Ends, Says}
 use Rattle.ekt.proofs.LengthLaws.{LengthFits, fits_says, length_there}

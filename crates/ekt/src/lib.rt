@@ -1,5 +1,6 @@
 // The EKT tag at the end of a media packet (RFC 8870, section 4.1).
 #![tactic(auto)]
+
 mod parts;
 mod splitting;
 

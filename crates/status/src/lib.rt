@@ -1,5 +1,6 @@
 // The status page of a table as bit-packed octets (document 02, order 1): its layout and its reader.
 #![tactic(auto)]
+
 mod bits;
 mod entries;
 mod entry;

@@ -1,0 +1,18 @@
+use Prim.Native.Nat.{◌-◌, ◌*◌}
+use native.Mathlib.Omega.{arith}
+use lib.Pow.{pow_pos}
+use Rattle.octets.specs.Number.{Octets}
+use Rattle.status.proofs.WordLaws.{field_count}
+use Rattle.status.proofs.PageLaws.{laid_tests}
+use Rattle.status.proofs.reading.laid_out.Goals as goal
+
+pub nonzero_rem-result : goal.nonzero_rem-result
+nonzero_rem-result c =
+    let filling = c.octets_for-octets.result * 8 - c.page_bits-bits.result in
+    omega (arith, field_count filling (omega arith), pow_pos filling)
+
+pub returns : goal.returns
+returns c =
+    let s = c.args.page.now in
+    let o : Octets s = λ at. omega (arith, c.type_inv.page at) in
+    rw (c.octet-last.ensures, c.octets_for-octets.ensures, c.page_bits-bits.ensures, c.requires.0) (laid_tests s o)
