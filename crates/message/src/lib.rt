@@ -1,5 +1,7 @@
 // The tunnel messages between a media distributor and a key distributor (RFC 9185, section 6): what they
 // are, read and written, and their reading; and the rules on profiles and key lengths that tables of associations share.
+#![tactic(auto)]
+
 mod bodies;
 mod bounds;
 mod example;

@@ -1,0 +1,10 @@
+use borrow.Author.Rules.{rules}
+use Rattle.aes.specs.Field.{xor}
+use Rattle.aes.proofs.MixLaws.{mix_octet}
+use Rattle.aes.proofs.field.mix_octet.Goals as goal
+
+pub returns : goal.returns
+unfolding xor
+returns c =
+    let a = c.args in
+    rw c.xtime.ensures (mix_octet a.a a.b a.c a.d (search rules) (search rules) (search rules) (search rules))

@@ -1,0 +1,11 @@
+use Prim.Native.Nat.{◌-◌}
+use Rattle.aes.specs.State.{sub_bytes}
+use Rattle.aes.proofs.Filled.{Filled}
+use Rattle.aes.proofs.state.sub_bytes.Given as goal
+
+-- The loop fills the array from the front.
+abbrev pub invariant-loop-i : goal.invariant-loop-i
+invariant-loop-i l = Filled 16 (sub_bytes l.s) l.t l.i
+
+abbrev pub decreases-loop-i : goal.decreases-loop-i
+decreases-loop-i l = 16 - l.i
