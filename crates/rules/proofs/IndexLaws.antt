@@ -83,7 +83,7 @@ module _ (octets : Entry → List ℕ) (w : ℕ) (wide : (x : Entry) → length 
       subst (λ (i : ℕ). Holds s (octets x) i) n (both_hold r x m k).0
   column_holds {s} {at} r (x ∷ m) (suc i) h k =
       let n : at + w + w * i ≡ at + w * suc i = omega arith in
-      subst (λ (j : ℕ). Holds s (octets (get_or m i (entry 0 0))) j) n (column_holds r m i (le_of_suc-le-suc h) (both_hold r x m k).1)
+      subst (λ (j : ℕ). Holds s (octets (get_or m i (entry 0 0))) j) n (column_holds {at = at + w} r m i (le_of_suc-le-suc h) (both_hold r x m k).1)
 
   -- ---- an entry more
 

@@ -31,6 +31,7 @@ recorded (some b ∷ l) (Memᴰ.tail m) = Memᴰ.tail (recorded l m)
 
 pub records_all : {a : Association} (l : List AtPlace) → Memᴰ (some a) l → Memᴰ a (records l)
 unfolding records
+records_all {a = a} [] x' = elim x' [ ]
 records_all (none ∷ l) (Memᴰ.head q) = absurd (some-ne-none _ q)
 records_all (none ∷ l) (Memᴰ.tail m) = records_all l m
 records_all (some b ∷ l) (Memᴰ.head q) = Memᴰ.head (some-injective _ _ q)

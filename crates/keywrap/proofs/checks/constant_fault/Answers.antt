@@ -1,0 +1,6 @@
+use borrow.Author.Rules.{rules}
+use Rattle.keywrap.proofs.CodeLaws.{mark_none}
+use Rattle.keywrap.proofs.checks.constant_fault.Goals as goal
+
+pub returns : goal.returns
+returns c = mark_none c.args.x.now

@@ -1,0 +1,16 @@
+use Prim.Native.Nat.{ℕ, ◌-◌}
+use mathlib.Core.Path.{◌≡◌, refl, sym, ap, ◌∙◌}
+use mathlib.Core.List.{List}
+use native.Mathlib.Omega.{arith}
+use borrow.Author.Rules.{rules}
+use lib.ListN.{length, get_or, replicate, length-replicate}
+use Rattle.aes.proofs.Filled.{Filled, none, more, whole}
+use Rattle.keywrap.proofs.CodeLaws.{zero_at}
+use Rattle.keywrap.proofs.clearing.clear.Given as goal
+
+-- The loop fills the slice with octets 0.
+abbrev pub invariant-loop-i : goal.invariant-loop-i
+invariant-loop-i l = Filled (length l.initial.x) (replicate (length l.initial.x) 0) l.x l.i
+
+abbrev pub decreases-loop-i : goal.decreases-loop-i
+decreases-loop-i l = length l.initial.x - l.i

@@ -1,0 +1,14 @@
+use Prim.Native.Nat.{◌-◌}
+use mathlib.Core.Path.{refl}
+use native.Mathlib.Omega.{arith}
+use lib.ListN.{length}
+use Rattle.aes.proofs.Filled.{Filled, none, more, whole}
+use Rattle.keywrap.specs.Padding.{initial_registers}
+use Rattle.keywrap.proofs.loading.load.Given as goal
+
+-- The loop fills the slice from the front.
+abbrev pub invariant-loop-i : goal.invariant-loop-i
+invariant-loop-i l = Filled (length l.initial.x) (initial_registers l.plaintext) l.x l.i
+
+abbrev pub decreases-loop-i : goal.decreases-loop-i
+decreases-loop-i l = length l.initial.x - l.i

@@ -1,0 +1,22 @@
+use mathlib.Core.Path.{refl}
+use native.Mathlib.Omega.{arith}
+use borrow.Author.Rules.{rules}
+use Rattle.keywrap.specs.KeyWrap.{step, unwrap_step}
+use Rattle.keywrap.proofs.CodeLaws.{in_reach}
+use Rattle.keywrap.proofs.process.unwrap_step.Goals as goal
+
+pub block-requires : goal.block-requires
+block-requires c =
+    let a = c.args in
+    in_reach c.register-i.result a.t a.x.now c.register-i.ensures (omega arith) (omega arith)
+
+pub replace-requires : goal.replace-requires
+replace-requires c =
+    let a = c.args in
+    let r = c.register-i in
+    in_reach r.result a.t a.x.now r.ensures (omega arith) (omega arith)
+
+pub returns : goal.returns
+unfolding unwrap_step step
+returns c =
+    rw (c.replace.ensures, c.decrypt_block.ensures, c.xor_count-b.ensures, c.block.ensures, c.register-i.ensures) refl

@@ -1,0 +1,15 @@
+use Rattle.message.specs.Message as M
+use Rattle.writers.proofs.Pieces.{header_fits, first, piece, whole}
+use borrow.Author.Rules.{rules}
+use Rattle.writers.proofs.putting.endpoint_disconnect.Goals as goal
+
+pub put_header-a-requires : goal.put_header-a-requires
+put_header-a-requires c =
+    let a = c.args in
+    header_fits (M.endpoint_disconnect a.identifier.now) a.out.now c.requires
+
+pub returns : goal.returns
+returns c =
+    let a = c.args in
+    let m = M.endpoint_disconnect a.identifier.now in
+    whole m a.out.now c.requires (piece a.identifier.now (first m a.out.now c.requires c.put_header-a.ensures) (λ _. c.put_octets.ensures))

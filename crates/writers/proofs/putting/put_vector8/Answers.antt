@@ -1,0 +1,11 @@
+use mathlib.Core.List.{[], ◌∷◌}
+use lib.ListN.{length}
+use Rattle.octets.proofs.WriteLaws.{put_put}
+use borrow.Author.Rules.{rules}
+use Rattle.writers.proofs.putting.put_vector8.Goals as goal
+
+pub returns : goal.returns
+returns c =
+    let a = c.args in
+    let f = a.field.now in
+    λ h. put_put a.out.now (length f ∷ []) f a.at h c.put_octet-next.ensures.0 c.put_octet-next.ensures.1 c.put_octets.ensures.0 c.put_octets.ensures.1
