@@ -13,7 +13,7 @@ use Rattle.aes.proofs.StateLaws.{Block}
 use Rattle.aes.proofs.Inverse.{cipher_block, inv_cipher_block, inv_cipher_lem, cipher_inv}
 use Rattle.keywrap.specs.KeyWrap.{register_count, wrap_steps, unwrap_steps}
 use Rattle.keywrap.specs.Padding.{wrap_registers, unwrap_registers}
-use Rattle.keywrap.proofs.StepLaws.{Registers, steps_registers, steps_long, backs_registers, backs_long, steps_back, steps_forth}
+use Rattle.keywrap.proofs.StepLaws.{Registers, steps_long, backs_registers, backs_long, steps_back, steps_forth}
 
 -- A and whole registers
 pub record Whole (x : List ℕ) : Type 0 where

@@ -1,6 +1,7 @@
 // AES Key Wrap with Padding (RFC 5649) with AES-128, for plaintexts of 1 to 240 octets. No address and no branch depends
 // on a key or a plaintext but by what the answer tells: accepted or not, and the length.
 #![tactic(auto)]
+
 mod checks;
 mod clearing;
 mod in_place;

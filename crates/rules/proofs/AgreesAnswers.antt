@@ -24,12 +24,12 @@ use Rattle.rules.specs.Call as Call
 use Rattle.rules.specs.Verdict.{Verdict, allowed, refusal, refuse}
 use Rattle.rules.specs.Answer.{Association, Answer, refused, found, delivery, keys_stored, removed, answered}
 use Rattle.rules.specs.Refusals.{wrong_width, no_room, not_dtls, too_long, start_message, receiving}
-use Rattle.rules.specs.View.{AtPlace, View, identifier_in, endpoint_in, is_for}
+use Rattle.rules.specs.View.{AtPlace, View, identifier_in, is_for}
 use Rattle.rules.specs.Cards.{Held, blank, opened, keyed, Cards, filled, holding, live, endpoint_live, all_live}
 use Rattle.rules.specs.CardAnswers as CardAnswers
 use Rattle.rules.specs.CardAnswers.{tunnel_on, identifier_with, association_on, by_card, message_expected, read_expected, expected}
 use Rattle.rules.specs.Claim.{except_place}
-use Rattle.rules.specs.ViewSteps.{entries_in, is_serving, association_at, first_with, endpoint_for, has, is_down, start_verdict, open_verdict, packet_verdict, close_verdict, look_verdict, page_verdict, keys_verdict, fields_answer, read_answer, view_answer}
+use Rattle.rules.specs.ViewSteps.{entries_in, is_serving, association_at, first_with, endpoint_for, has, start_verdict, open_verdict, packet_verdict, close_verdict, look_verdict, page_verdict, keys_verdict, fields_answer, read_answer, view_answer}
 use Rattle.rules.specs.Orders.{start_order, open_order, close_order, keys_order}
 use Rattle.rules.proofs.KeepLaws.{first_found, first_none, first_kept, first_is}
 use Rattle.rules.proofs.ProfilesLaws.{expected_reads}

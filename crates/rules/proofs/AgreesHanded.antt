@@ -22,7 +22,6 @@ use Rattle.rules.specs.Cards.{Held, blank, opened, keyed, Cards, filled}
 use Rattle.rules.specs.CardAnswers.{tunnel_on, by_card, message_expected, read_expected, expected}
 use Rattle.rules.specs.Claim.{except_place, nothing, handed_by, handed_on, handed_for, handed_read, expected_handout}
 use Rattle.rules.specs.ViewSteps.{view_answer}
-use Rattle.rules.specs.Orders.{keys_order}
 use Rattle.rules.proofs.Choices.{no_both}
 use Rattle.rules.proofs.ProfilesLaws.{handed_reads, expected_reads}
 use Rattle.rules.proofs.Agrees.{Agrees}

@@ -11,7 +11,7 @@ use lib.ListN.{length, get_or, set, length-set}
 use Rattle.octets.proofs.Tests.{by_test}
 use Rattle.rules.specs.Search.{first, some_of}
 use Rattle.rules.specs.Halving.{Spot, here, missing, halving, two_to}
-use Rattle.rules.specs.Order.{Entry, entry, insert, order_from, order}
+use Rattle.rules.specs.Order.{Entry, entry, insert, order_from}
 use Rattle.rules.specs.Limits.{places, rounds}
 use Rattle.rules.specs.Index.{count_of, index_endpoint, spot, place_at_spot, entering, leaving, with_entry, without_entry}
 use Rattle.rules.specs.Table.{place_of_endpoint}

@@ -11,7 +11,7 @@ use lib.ListN.{length, get_or, set, length-set}
 use lib.Seq.{get_or-set_same}
 use Rattle.octets.proofs.Tests.{both, by_test}
 use Rattle.rules.specs.Search.{first, some_of}
-use Rattle.rules.specs.Order.{Entry, entry, insert, order_from, order}
+use Rattle.rules.specs.Order.{Entry, entry, insert, order_from}
 use Rattle.rules.proofs.Entries.{endpoints, remove, place_with, serving, EndpointsDiffer}
 use Rattle.rules.proofs.Cases.{either_false}
 use Rattle.rules.proofs.HalvingLaws.{Rising}

@@ -14,7 +14,6 @@ use Rattle.message.specs.Parts.{meaning}
 use Rattle.message.specs.declared.framing.Kind.{Kind}
 use Rattle.message.specs.declared.bodies.Fields.TheVariants.{SupportedProfiles}
 use Rattle.rules.specs.Refusals.{is_profiles, receiving}
-use Rattle.rules.specs.Answer.{refused}
 use Rattle.rules.specs.Cards.{Card, Cards, read_card}
 use Rattle.rules.specs.CardAnswers.{read_expected, octets_expected}
 use Rattle.rules.specs.Claim.{nothing, handed_read}

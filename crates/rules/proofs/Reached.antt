@@ -9,7 +9,7 @@ use Rattle.status.specs.Places.{Shown, entries_of}
 use Rattle.status.proofs.Theorem.{counted_list, table_of}
 use Rattle.rules.specs.Call.{Call, start, opening, booth_packet, tunnel_octets, close, end, look, write_page}
 use Rattle.rules.specs.Layout.{down_block}
-use Rattle.rules.specs.Table.{run, shown, page_entries}
+use Rattle.rules.specs.Table.{run, page_entries}
 use Rattle.rules.specs.ViewSteps.{shown_of}
 use Rattle.rules.specs.Reaching.{calls_for}
 use Rattle.rules.specs.Pages.{EndpointFits, EndpointsFit, Callable, AllCallable, Leads, Reached, Exactly}

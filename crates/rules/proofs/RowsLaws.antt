@@ -8,7 +8,6 @@ use lib.Seq.{drop-drop, drop-append-add, drop-append-le, take-append-le, length-
 use Rattle.octets.specs.Part.{part}
 use Rattle.octets.specs.Write.{over}
 use Rattle.octets.proofs.PartLaws.{part_length}
-use Rattle.octets.proofs.WriteLaws.{over_length}
 use Rattle.rules.specs.Limits.{places, list_limit}
 use Rattle.rules.specs.Layout.{chunks, rows, row_of, with_row, tunnel_at, index_at, row_length, block_length, field, vacant_row, down_block, up_block}
 use Rattle.rules.proofs.FieldLaws.{field_length}

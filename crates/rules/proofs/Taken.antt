@@ -30,7 +30,7 @@ use Rattle.message.proofs.FrameSays.{frame_says, whole_type, FrameSays}
 use Rattle.message.proofs.Taken.{whole_framed, reads_by_steps}
 use Rattle.rules.specs.Tunnel.{is_up, list_in}
 use Rattle.rules.specs.Call as Call
-use Rattle.rules.specs.Verdict.{allowed, refusal, refuse}
+use Rattle.rules.specs.Verdict.{allowed, refuse}
 use Rattle.rules.specs.Answer.{Answer, refused, more_needed, keys_stored, delivery, removed, version, answered}
 use Rattle.rules.specs.Layout.{up, list_of}
 use Rattle.rules.specs.Refusals.{received, receiving}

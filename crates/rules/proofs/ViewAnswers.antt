@@ -11,7 +11,7 @@ use Rattle.message.specs.declared.bodies.Fields.{Fields}
 use Rattle.message.specs.declared.bodies.Fields.TheVariants.{SupportedProfiles, UnsupportedVersion, MediaKeys, TunneledDtls, EndpointDisconnect}
 use Rattle.rules.specs.Call.{Call, start, opening, booth_packet, tunnel_octets, close, end, look, write_page}
 use Rattle.rules.specs.Layout.{up, row_of}
-use Rattle.rules.specs.Answer.{Answer, refused, wrote, found, keys_stored, delivery, removed}
+use Rattle.rules.specs.Answer.{refused, wrote, found, keys_stored, delivery, removed}
 use Rattle.rules.specs.Refusals.{receiving}
 use Rattle.rules.specs.Table.{place_of_identifier, knows, endpoint_for, keys_verdict, packet_verdict, look_verdict, start_answer, open_answer, packet_answer, close_answer, end_answer, look_answer, page_answer, fields_answer, read_answer, octets_answer, answer}
 use Rattle.rules.specs.View.{view, endpoint_in}

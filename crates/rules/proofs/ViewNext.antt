@@ -23,7 +23,7 @@ use Rattle.rules.specs.Index.{with_entry}
 use Rattle.rules.proofs.SearchLaws.{some_first, first_passes}
 use Rattle.rules.proofs.RowsLaws.{rows_length}
 use Rattle.rules.specs.Verdict.{allowed}
-use Rattle.rules.specs.Answer.{Association, opened, keyed, Answer, refused}
+use Rattle.rules.specs.Answer.{Association, opened, keyed}
 use Rattle.rules.specs.Refusals.{receiving}
 use Rattle.rules.specs.Table.{place_of_identifier, vacant_place, knows, serves, has_room, start_verdict, open_verdict, close_verdict, keys_verdict, start_next, open_next, close_next, end_next, fields_next, read_next, octets_next, association_of, without, rekeyed, step}
 use Rattle.rules.specs.View.{view, identifier_in, endpoint_in, is_for}

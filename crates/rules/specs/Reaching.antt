@@ -5,7 +5,6 @@ use Rattle.message.specs.Limits.{width}
 use Rattle.message.specs.Message.{encode, media_keys, endpoint_disconnect}
 use Rattle.rules.specs.Search.{some_of}
 use Rattle.rules.specs.Refusals.{start_message}
-use Rattle.rules.specs.Call as Call
 use Rattle.rules.specs.Call.{Call}
 
 -- ---- numbers to use

@@ -3,7 +3,6 @@ use Rattle.std.specs.Prelude.{ℕ, ◌+◌, ◌≤◌, ◌<◌, ◌≡◌, ◌�
 use Rattle.octets.specs.declared.parts.Bounds.{Bounds}
 use Rattle.octets.specs.Number.{octet_at, number16_at}
 use Rattle.message.specs.Taken.{OfVersion, OfOther, WholeAt, IsUnlisted}
-use Rattle.rules.specs.Answer as Answer
 use Rattle.rules.specs.Answer.{Answer, refused, more_needed, keys_stored, delivery, removed}
 
 -- a refusal with a number between two, so many octets taken

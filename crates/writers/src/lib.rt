@@ -1,6 +1,7 @@
 // The five tunnel messages, written from their fields (RFC 9185, section 6). What a message and its
 // octets are is defined in `message`.
 #![tactic(auto)]
+
 mod putting;
 mod writing;
 

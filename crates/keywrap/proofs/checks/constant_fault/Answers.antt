@@ -1,4 +1,3 @@
-use borrow.Author.Rules.{rules}
 use Rattle.keywrap.proofs.CodeLaws.{mark_none}
 use Rattle.keywrap.proofs.checks.constant_fault.Goals as goal
 

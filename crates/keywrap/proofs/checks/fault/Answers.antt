@@ -1,4 +1,3 @@
-use borrow.Author.Rules.{rules}
 use Rattle.keywrap.proofs.CodeLaws.{fault_none, fault_fits}
 use Rattle.keywrap.proofs.checks.fault.Goals as goal
 

@@ -1,7 +1,6 @@
 use Prim.Native.Nat.{◌%◌}
 use mathlib.Core.Path.{ap}
 use mathlib.Core.Bool.{Bool, ◌&&◌}
-use borrow.Author.Rules.{rules}
 use lib.Dec.{eqb}
 use Rattle.keywrap.specs.Padding.{length_fits}
 use Rattle.keywrap.proofs.checks.length_fits.Goals as goal

@@ -1,4 +1,3 @@
-use borrow.Author.Rules.{rules}
 use Rattle.keywrap.proofs.CodeLaws.{masked_product, masked_fits}
 use Rattle.keywrap.proofs.checks.masked.Goals as goal
 

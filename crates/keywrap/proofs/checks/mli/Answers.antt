@@ -1,4 +1,3 @@
-use borrow.Author.Rules.{rules}
 use Rattle.keywrap.specs.Padding.{mli}
 use Rattle.keywrap.proofs.checks.mli.Goals as goal
 

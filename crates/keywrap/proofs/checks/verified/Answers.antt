@@ -1,5 +1,4 @@
 use mathlib.Core.Path.{refl}
-use borrow.Author.Rules.{rules}
 use lib.Seq.{drop-drop}
 use Rattle.keywrap.specs.KeyWrap.{register_count}
 use Rattle.keywrap.specs.Padding.{mli, verified}

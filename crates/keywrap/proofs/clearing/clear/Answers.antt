@@ -1,10 +1,9 @@
-use Prim.Native.Nat.{ℕ, ◌-◌}
+use Prim.Native.Nat.{ℕ}
 use mathlib.Core.Path.{◌≡◌, refl, sym, ap, ◌∙◌}
 use mathlib.Core.List.{List}
 use native.Mathlib.Omega.{arith}
-use borrow.Author.Rules.{rules}
 use lib.ListN.{length, get_or, replicate, length-replicate}
-use Rattle.aes.proofs.Filled.{Filled, none, more, whole}
+use Rattle.aes.proofs.Filled.{none, more, whole}
 use Rattle.keywrap.proofs.CodeLaws.{zero_at}
 use Rattle.keywrap.proofs.clearing.clear.Goals as goal
 

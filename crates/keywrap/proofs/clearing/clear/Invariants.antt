@@ -1,11 +1,6 @@
-use Prim.Native.Nat.{ℕ, ◌-◌}
-use mathlib.Core.Path.{◌≡◌, refl, sym, ap, ◌∙◌}
-use mathlib.Core.List.{List}
-use native.Mathlib.Omega.{arith}
-use borrow.Author.Rules.{rules}
-use lib.ListN.{length, get_or, replicate, length-replicate}
-use Rattle.aes.proofs.Filled.{Filled, none, more, whole}
-use Rattle.keywrap.proofs.CodeLaws.{zero_at}
+use Prim.Native.Nat.{◌-◌}
+use lib.ListN.{length, replicate}
+use Rattle.aes.proofs.Filled.{Filled}
 use Rattle.keywrap.proofs.clearing.clear.Given as goal
 
 -- The loop fills the slice with octets 0.

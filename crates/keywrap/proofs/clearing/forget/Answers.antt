@@ -1,7 +1,6 @@
 use Prim.Native.Nat.{ℕ, ◌+◌, ◌/◌, ◌%◌, ◌≤◌}
 use mathlib.Core.Path.{◌≡◌, refl, sym, ap, ap₂, subst, ◌∙◌}
 use mathlib.Core.List.{List}
-use borrow.Author.Rules.{rules}
 use lib.ListN.{length, get_or, replicate, length-replicate}
 use Rattle.octets.proofs.OctetLaws.{zeros_octets}
 use Rattle.aes.specs.KeyExpansion.{key_expansion}

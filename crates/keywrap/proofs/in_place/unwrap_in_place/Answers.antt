@@ -1,7 +1,6 @@
 use mathlib.Core.Path.{◌≡◌, refl, sym, ◌∙◌}
 use mathlib.Core.Bool.{true, false}
 use native.Mathlib.Omega.{arith}
-use borrow.Author.Rules.{rules}
 use lib.ListN.{length}
 use Rattle.keywrap.specs.Padding.{length_fits}
 use Rattle.keywrap.proofs.PaddingLaws.{fitting_multiple, fitting_least, fitting_most}

@@ -1,4 +1,3 @@
-use borrow.Author.Rules.{rules}
 use native.Mathlib.Omega.{arith}
 use Rattle.keywrap.proofs.CodeLaws.{head_at, plaintext_at, behind_at}
 use Rattle.keywrap.proofs.loading.initial_octet.Goals as goal

@@ -1,9 +1,6 @@
-use Prim.Native.Nat.{◌-◌}
 use mathlib.Core.Path.{refl}
 use native.Mathlib.Omega.{arith}
-use lib.ListN.{length}
-use Rattle.aes.proofs.Filled.{Filled, none, more, whole}
-use Rattle.keywrap.specs.Padding.{initial_registers}
+use Rattle.aes.proofs.Filled.{none, more, whole}
 use Rattle.keywrap.proofs.loading.load.Goals as goal
 
 pub loop-i-init : goal.loop-i-init

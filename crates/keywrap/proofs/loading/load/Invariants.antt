@@ -1,8 +1,6 @@
 use Prim.Native.Nat.{◌-◌}
-use mathlib.Core.Path.{refl}
-use native.Mathlib.Omega.{arith}
 use lib.ListN.{length}
-use Rattle.aes.proofs.Filled.{Filled, none, more, whole}
+use Rattle.aes.proofs.Filled.{Filled}
 use Rattle.keywrap.specs.Padding.{initial_registers}
 use Rattle.keywrap.proofs.loading.load.Given as goal
 

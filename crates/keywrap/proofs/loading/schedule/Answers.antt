@@ -1,6 +1,5 @@
 use mathlib.Core.Path.{ap, ◌∙◌}
 use native.Mathlib.Omega.{arith}
-use borrow.Author.Rules.{rules}
 use lib.ListN.{replicate}
 use Rattle.octets.proofs.WriteLaws.{put_whole}
 use Rattle.aes.specs.KeyExpansion.{key_expansion}

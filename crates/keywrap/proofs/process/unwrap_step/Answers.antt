@@ -1,6 +1,5 @@
 use mathlib.Core.Path.{refl}
 use native.Mathlib.Omega.{arith}
-use borrow.Author.Rules.{rules}
 use Rattle.keywrap.specs.KeyWrap.{step, unwrap_step}
 use Rattle.keywrap.proofs.CodeLaws.{in_reach}
 use Rattle.keywrap.proofs.process.unwrap_step.Goals as goal

@@ -1,7 +1,5 @@
-use Prim.Native.Nat.{◌≤◌}
 use mathlib.Core.Path.{◌≡◌, refl, sym, ◌∙◌}
 use native.Mathlib.Omega.{arith}
-use lib.ListN.{length}
 use Rattle.keywrap.specs.KeyWrap.{unwrap_steps}
 use Rattle.keywrap.proofs.CodeLaws.{unwrap_less}
 use Rattle.keywrap.proofs.process.unwrap_steps.Goals as goal

@@ -1,9 +1,7 @@
 use Prim.Native.Nat.{◌≤◌}
-use mathlib.Core.Path.{◌≡◌, refl, sym, ◌∙◌}
-use native.Mathlib.Omega.{arith}
+use mathlib.Core.Path.{◌≡◌}
 use lib.ListN.{length}
 use Rattle.keywrap.specs.KeyWrap.{unwrap_steps}
-use Rattle.keywrap.proofs.CodeLaws.{unwrap_less}
 use Rattle.keywrap.proofs.process.unwrap_steps.Given as goal
 
 -- T steps are to come.

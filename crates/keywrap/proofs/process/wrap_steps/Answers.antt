@@ -1,8 +1,6 @@
-use Prim.Native.Nat.{◌-◌, ◌≤◌}
 use mathlib.Core.Path.{◌≡◌, refl}
 use native.Mathlib.Omega.{arith}
 use native.Mathlib.Numerals.{add-one}
-use lib.ListN.{length}
 use Rattle.keywrap.specs.KeyWrap.{wrap_steps}
 use Rattle.keywrap.proofs.process.wrap_steps.Goals as goal
 

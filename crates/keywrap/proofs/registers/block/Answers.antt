@@ -1,9 +1,8 @@
-use Prim.Native.Nat.{ℕ, ◌-◌}
+use Prim.Native.Nat.{ℕ}
 use mathlib.Core.Path.{refl, ap, ◌∙◌}
 use native.Mathlib.Omega.{arith}
 use lib.ListN.{length, get_or}
-use Rattle.aes.proofs.Filled.{Filled, none, more, whole}
-use Rattle.keywrap.specs.KeyWrap.{block}
+use Rattle.aes.proofs.Filled.{none, more, whole}
 use Rattle.keywrap.proofs.CodeLaws.{block_long, block_at, place_lt}
 use Rattle.keywrap.proofs.registers.block.Goals as goal
 

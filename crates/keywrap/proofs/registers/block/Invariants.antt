@@ -1,10 +1,6 @@
-use Prim.Native.Nat.{ℕ, ◌-◌}
-use mathlib.Core.Path.{refl, ap, ◌∙◌}
-use native.Mathlib.Omega.{arith}
-use lib.ListN.{length, get_or}
-use Rattle.aes.proofs.Filled.{Filled, none, more, whole}
+use Prim.Native.Nat.{◌-◌}
+use Rattle.aes.proofs.Filled.{Filled}
 use Rattle.keywrap.specs.KeyWrap.{block}
-use Rattle.keywrap.proofs.CodeLaws.{block_long, block_at, place_lt}
 use Rattle.keywrap.proofs.registers.block.Given as goal
 
 -- The loop fills the block from the front.

@@ -1,4 +1,3 @@
-use borrow.Author.Rules.{rules}
 use borrow.Author.Tests.{lt-ltb, le-ltb}
 use Rattle.keywrap.specs.Inner.{offset_of}
 use Rattle.keywrap.proofs.registers.offset.Goals as goal

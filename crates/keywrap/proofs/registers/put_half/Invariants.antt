@@ -1,12 +1,7 @@
-use Prim.Native.Nat.{ℕ, ◌+◌, ◌-◌, ◌≤◌}
-use mathlib.Core.Path.{◌≡◌, refl, ap₂, ◌∙◌}
-use mathlib.Core.List.{List}
-use native.Mathlib.Omega.{arith}
-use native.Mathlib.Numerals.{add-one}
-use borrow.Author.Rules.{rules}
-use lib.ListN.{length, set, take, drop, length-set}
-use lib.Seq.{paste, paste-zero, paste-suc, take-length}
-use Rattle.keywrap.proofs.CodeLaws.{half_at, half_long}
+use Prim.Native.Nat.{◌-◌, ◌≤◌}
+use mathlib.Core.Path.{◌≡◌}
+use lib.ListN.{length, take, drop}
+use lib.Seq.{paste}
 use Rattle.keywrap.proofs.registers.put_half.Given as goal
 
 -- K octets are copied.

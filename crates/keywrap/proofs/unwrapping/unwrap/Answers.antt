@@ -1,4 +1,3 @@
-use borrow.Author.Rules.{rules}
 use Rattle.keywrap.specs.Calls.{unwrapped_answer}
 use Rattle.keywrap.proofs.CallLaws.{unwraps}
 use Rattle.keywrap.proofs.unwrapping.unwrap.Goals as goal

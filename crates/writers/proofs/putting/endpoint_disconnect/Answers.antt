@@ -1,6 +1,5 @@
 use Rattle.message.specs.Message as M
 use Rattle.writers.proofs.Pieces.{header_fits, first, piece, whole}
-use borrow.Author.Rules.{rules}
 use Rattle.writers.proofs.putting.endpoint_disconnect.Goals as goal
 
 pub put_header-a-requires : goal.put_header-a-requires

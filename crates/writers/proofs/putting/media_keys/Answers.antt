@@ -3,7 +3,6 @@ use Rattle.octets.specs.Number.{octets16}
 use Rattle.message.specs.Message as M
 use Rattle.message.proofs.KeyFields.{keys_written}
 use Rattle.writers.proofs.Pieces.{header_fits, first, piece, pieces, whole}
-use borrow.Author.Rules.{rules}
 use Rattle.writers.proofs.putting.media_keys.Goals as goal
 
 pub put_header-a-requires : goal.put_header-a-requires

@@ -4,7 +4,6 @@ use mathlib.Core.List.{[], ◌∷◌}
 use Rattle.octets.proofs.WriteLaws.{wrote_none, wrote_more}
 use Rattle.octets.specs.Number.{octets16}
 use Rattle.message.specs.Limits.{header}
-use borrow.Author.Rules.{rules}
 use Rattle.writers.proofs.putting.put_header.Goals as goal
 
 pub overflow_sub-count : goal.overflow_sub-count

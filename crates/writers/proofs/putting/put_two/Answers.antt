@@ -1,6 +1,5 @@
 use Rattle.message.specs.Message.{vector8}
 use Rattle.writers.proofs.Pieces.{puts_two}
-use borrow.Author.Rules.{rules}
 use Rattle.writers.proofs.putting.put_two.Goals as goal
 
 pub put_vector8-next-requires : goal.put_vector8-next-requires

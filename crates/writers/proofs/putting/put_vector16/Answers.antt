@@ -1,7 +1,6 @@
 use Rattle.octets.specs.Number.{octets16}
 use lib.ListN.{length}
 use Rattle.octets.proofs.WriteLaws.{put_put}
-use borrow.Author.Rules.{rules}
 use Rattle.writers.proofs.putting.put_vector16.Goals as goal
 
 pub returns : goal.returns

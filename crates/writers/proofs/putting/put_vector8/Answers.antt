@@ -1,7 +1,6 @@
 use mathlib.Core.List.{[], ◌∷◌}
 use lib.ListN.{length}
 use Rattle.octets.proofs.WriteLaws.{put_put}
-use borrow.Author.Rules.{rules}
 use Rattle.writers.proofs.putting.put_vector8.Goals as goal
 
 pub returns : goal.returns

@@ -4,7 +4,6 @@ use Rattle.message.specs.Limits.{most16}
 use Rattle.message.specs.Message as M
 use Rattle.message.proofs.AnswerLaws.{written_says}
 use Rattle.writers.proofs.Pieces.{header_fits, first, piece, whole}
-use borrow.Author.Rules.{rules}
 use Rattle.writers.proofs.putting.tunneled_dtls.Goals as goal
 
 pub put_header-a-requires : goal.put_header-a-requires

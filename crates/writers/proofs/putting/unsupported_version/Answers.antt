@@ -1,7 +1,6 @@
 use mathlib.Core.List.{[], ◌∷◌}
 use Rattle.message.specs.Message as M
 use Rattle.writers.proofs.Pieces.{header_fits, first, piece, whole}
-use borrow.Author.Rules.{rules}
 use Rattle.writers.proofs.putting.unsupported_version.Goals as goal
 
 pub put_header-a-requires : goal.put_header-a-requires

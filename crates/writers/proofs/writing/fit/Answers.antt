@@ -1,5 +1,4 @@
-use borrow.Author.Tests.{eq-eqb, ne_eqb, lt-ltb, le-ltb, not-true, not-false}
-use borrow.Author.Rules.{rules}
+use borrow.Author.Tests.{eq-eqb, ne_eqb, lt-ltb, le-ltb}
 use Rattle.writers.proofs.writing.fit.Goals as goal
 
 pub returns-then-identifier-ne-WIDTH : goal.returns-then-identifier-ne-WIDTH

@@ -3,7 +3,6 @@ use mathlib.Core.Path.{◌≡◌, ◌∙◌}
 use mathlib.Core.Bool.{true, false}
 use Rattle.message.specs.Write.{key_fields_fit}
 use Rattle.message.proofs.KeyFields.{keys_fit_lem}
-use borrow.Author.Rules.{rules}
 use Rattle.writers.proofs.writing.fit_media_keys.Goals as goal
 
 pub overflow_add-mki : goal.overflow_add-mki

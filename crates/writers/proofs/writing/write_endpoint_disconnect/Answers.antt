@@ -2,7 +2,6 @@ use lib.ListN.{length}
 use Rattle.message.specs.Message as M
 use Rattle.writers.proofs.LengthLaws.{disconnect_answer}
 use Rattle.writers.proofs.OutputLaws.{counted, output_told, output_refused}
-use borrow.Author.Rules.{rules}
 use Rattle.writers.proofs.writing.write_endpoint_disconnect.Goals as goal
 
 pub endpoint_disconnect-requires : goal.endpoint_disconnect-requires

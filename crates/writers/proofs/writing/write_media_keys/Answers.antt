@@ -2,7 +2,6 @@ use lib.ListN.{length}
 use Rattle.message.specs.Message as M
 use Rattle.writers.proofs.LengthLaws.{keys_answer_lem}
 use Rattle.writers.proofs.OutputLaws.{counted, output_told, output_refused}
-use borrow.Author.Rules.{rules}
 use Rattle.writers.proofs.writing.write_media_keys.Goals as goal
 
 pub media_keys-requires : goal.media_keys-requires

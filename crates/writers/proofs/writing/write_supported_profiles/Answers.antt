@@ -2,7 +2,6 @@ use lib.ListN.{length}
 use Rattle.message.specs.Message as M
 use Rattle.writers.proofs.LengthLaws.{profiles_answer}
 use Rattle.writers.proofs.OutputLaws.{counted, output_told, output_refused}
-use borrow.Author.Rules.{rules}
 use Rattle.writers.proofs.writing.write_supported_profiles.Goals as goal
 
 pub supported_profiles-requires : goal.supported_profiles-requires

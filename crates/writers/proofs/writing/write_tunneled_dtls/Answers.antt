@@ -2,7 +2,6 @@ use lib.ListN.{length}
 use Rattle.message.specs.Message as M
 use Rattle.writers.proofs.LengthLaws.{dtls_answer}
 use Rattle.writers.proofs.OutputLaws.{counted, output_told, output_refused}
-use borrow.Author.Rules.{rules}
 use Rattle.writers.proofs.writing.write_tunneled_dtls.Goals as goal
 
 pub tunneled_dtls-requires : goal.tunneled_dtls-requires

@@ -2,7 +2,6 @@ use lib.ListN.{length}
 use Rattle.message.specs.Message as M
 use Rattle.writers.proofs.LengthLaws.{version_answer}
 use Rattle.writers.proofs.OutputLaws.{counted, output_told, output_refused}
-use borrow.Author.Rules.{rules}
 use Rattle.writers.proofs.writing.write_unsupported_version.Goals as goal
 
 pub unsupported_version-requires : goal.unsupported_version-requires
