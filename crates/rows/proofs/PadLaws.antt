@@ -1,12 +1,12 @@
 -- A padded field, written over an output.
-use Prim.Native.Nat.{ℕ, zero, suc, ◌+◌, ◌-◌, ◌≤◌, ◌<◌}
+use Prim.Native.Nat.{ℕ, zero, suc, ◌+◌, ◌≤◌, ◌<◌}
 use mathlib.Core.Path.{◌≡◌, refl, sym, ap, ◌∙◌}
-use mathlib.Core.List.{List, [], ◌∷◌, ◌++◌, append-nil, append_assoc}
+use mathlib.Core.List.{List, [], ◌∷◌, ◌++◌, append-nil}
 use native.Mathlib.Omega.{arith}
 use native.Mathlib.Nat.{le_of_eq, le_refl}
 use native.Mathlib.Numerals.{add-one}
 use lib.ListN.{drop, drop_of_length-le, get_or, length, length-replicate, length-take, replicate, set, take}
-use lib.Seq.{drop-drop, paste, paste-suc, sets-eq, take_all}
+use lib.Seq.{paste, paste-suc, sets-eq, take_all}
 use Rattle.octets.specs.Part.{part}
 use Rattle.octets.specs.Write.{over, put}
 use Rattle.octets.proofs.PartLaws.{part_front}

@@ -1,4 +1,6 @@
 // One row of the table, as octets: read, and written whole.
+#![tactic(auto)]
+
 mod arrays;
 pub mod layout;
 mod padding;

@@ -29,7 +29,6 @@ use Rattle.octets.specs.Part.{same}
 use Rattle.status.specs.Limits.{places}
 use Rattle.status.specs.Entries.{good, state_of}
 use Rattle.status.specs.Page.{layout, count_of, decoded, is_page, no_entry, counting, picking}
-use Rattle.status.specs.declared.entry.Entry.{Entry}
 use Rattle.status.proofs.ListLaws.{good_listable}
 use Rattle.status.proofs.PageLaws.{decoded_length}
 use Rattle.status.proofs.ReadLaws.{page_few}

@@ -1,6 +1,8 @@
 // The C interface: sorting packets, reading and writing tunnel messages, splitting the EKT tag, wrapping and
 // unwrapping the EKT plaintext, finding the index of a packet and reading a status page, on numbers and lent octets.
 // Each export gives a number for what a crate below answers.
+#![tactic(auto)]
+
 mod fields;
 mod index;
 mod numbers;
