@@ -1,4 +1,6 @@
 // Where rows stand in the block, how they are found, and the index of their endpoints.
+#![tactic(auto)]
+
 mod index;
 pub mod layout;
 mod lookup;

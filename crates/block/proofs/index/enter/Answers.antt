@@ -1,0 +1,6 @@
+use Rattle.block.proofs.WritingLaws as Writing
+use Rattle.block.proofs.index.enter.Goals as goal
+
+pub returns : goal.returns
+returns c =
+    Writing.enter_is c.args.out.now _ _ c.args.q.now c.args.from c.args.to c.requires.0 c.requires.2 c.shift.ensures c.put_octets.ensures.1
