@@ -7,7 +7,6 @@ use Rattle.rules.specs.Verdict.{Verdict, allowed, refusal}
 use Rattle.rules.specs.Refusals.{is_profiles}
 use Rattle.rules.specs.Call.{Call}
 use Rattle.rules.specs.Table.{answer, step}
-use Rattle.rules.specs.Answer as Answer
 use Rattle.rules.specs.Answer.{Answer, refused, more_needed, wrote, placed, ended, keys_stored, delivery, removed, version, page}
 use Rattle.distributor.specs.declared.check.Check.{Check}
 use Rattle.distributor.specs.declared.ending.Ended.{Ended}

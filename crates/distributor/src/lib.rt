@@ -1,5 +1,7 @@
 // Tunnel and table of a media distributor (RFC 9185, section 5; document 01, "The record and its
 // calls"), in one block of octets that the caller lends.
+#![tactic(auto)]
+
 mod check;
 mod closing;
 mod ending;
