@@ -9,7 +9,6 @@ use Rattle.octets.specs.Number.{octet_at}
 use Rattle.octets.proofs.PartLaws.{tail}
 use Rattle.octets.proofs.Tests.{by_choice}
 use Rattle.rules.specs.Answer.{Answer}
-use Rattle.rules.specs.Call as Call
 use Rattle.rules.specs.Call.{Call}
 use Rattle.rules.specs.Table.{answer, step}
 use Rattle.service.specs.Limits.{endpoint_length, room, frame_limit}

@@ -12,7 +12,7 @@ use Rattle.rules.specs.Verdict.{Verdict, allowed, refusal}
 use Rattle.status.specs.Page.{layout}
 use Rattle.status.specs.declared.entry.Entry.{Entry}
 use Rattle.rules.specs.Answer.{Answer, wrote, page, answered, refused}
-use Rattle.distributor.specs.Outcomes.{Wrote, Sends, WrotePage, Pages}
+use Rattle.distributor.specs.Outcomes.{Sends, Pages}
 use Rattle.distributor.specs.declared.sending.Sent.{Sent}
 use Rattle.service.specs.Limits.{head_length, answer_limit}
 use Rattle.service.specs.Reply.{Replies, frame_of, answer_octets}

@@ -6,7 +6,6 @@ use Rattle.message.specs.Limits.{mki_limit, salt_limit}
 use Rattle.status.specs.Page.{layout}
 use Rattle.rules.specs.Limits.{key_limit}
 use Rattle.rules.specs.Layout.{field}
-use Rattle.rules.specs.Call as Call
 use Rattle.rules.specs.Call.{Call}
 use Rattle.rules.specs.Answer.{Association, opened, keyed, Answer, refused, more_needed, wrote, placed, ended, found, keys_stored, delivery, removed, version, page}
 use Rattle.rules.specs.Keys.{Keys}

@@ -1,7 +1,6 @@
 -- What a request frame stands for: docs/RELAY.md, "Requests". A frame here is its octets behind the two of length.
 use Rattle.std.specs.Prelude.{ℕ, cond, List, ltb, eqb, length, drop}
 use Rattle.octets.specs.Number.{octet_at, number32_at}
-use Rattle.rules.specs.Call as Call
 use Rattle.rules.specs.Call.{Call}
 use Rattle.service.specs.Limits.{endpoint_length, room, frame_limit}
 use Rattle.service.specs.declared.kind.Kind.{Kind}

@@ -1,5 +1,7 @@
 // One request of the relay served on lent octets: a frame in, an answer frame out, the distributor's
 // block in between (docs/RELAY.md).
+#![tactic(auto)]
+
 mod answers;
 mod associations;
 mod kind;
