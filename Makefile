@@ -1,6 +1,6 @@
 # make demo         two booths, a branch and a key distributor on one machine, with real handshakes: docs/DEMO.md
 # make screen       the screen for the desk beside booths that come and go, until Ctrl-C: docs/SCREEN.md
-# make test         the whole gate: formatting, tests, proofs, wrong programs, programs
+# make test         the whole gate: tests, proofs, wrong programs, programs
 # make vectors      run the worked octets and print each answer
 # make check        prove what changed and run the programs
 # make fmt          lay the sources out
@@ -32,6 +32,8 @@ SOAK_SECONDS ?= 600
 FUZZ_SECONDS ?= 60
 SEED ?= 1
 
+sources := crates.txt $(shell find crates -type f -not -path '*/out/*')
+
 demo: build/branch-demo target/bin/relay build/libshawm.so
 	@examples/demo
 
@@ -41,28 +43,31 @@ screen: build/branch-demo target/bin/relay build/libshawm.so
 test:
 	bash .ci/run
 
-vectors:
-	@rt check vectors > /dev/null || { rt check vectors | tail -n 20; exit 1; }
-	@target/bin/vectors < crates/vectors/stdin
+vectors: | build
+	@cd crates/vectors && rt run < stdin 2> ../../build/vectors.log || { tail -n 20 ../../build/vectors.log; exit 1; }
 
 check:
-	rt check
+	rt all check
 
 fmt:
-	rt fmt
+	for crate in crates/*/; do (cd "$$crate" && rt fmt) || exit 1; done
 
-bench: build/libshawm.a
-	rt staticlib measure
+bench: build/libshawm.a target/staticlib/libmeasure.a
 	bench/run bench
 	bench/branches
 	bench/stack
 	bench/run wrap
 
+build:
+	@mkdir -p build
+
 relay: target/bin/relay
 
-target/bin/relay: crates.txt $(shell find crates -type f)
-	rt check relay
-	@touch $@
+# Proved and linked, it is run once: on no request it ends at once.
+target/bin/relay: $(sources)
+	cd crates/relay && rt run < /dev/null
+	@mkdir -p target/bin
+	cp crates/relay/out/relay $@
 
 branch_sources = $(wildcard examples/branch/*.[ch] examples/branch/control/*.c) examples/branch/build include/shawm.h
 
@@ -76,10 +81,15 @@ build/branch-demo: $(branch_sources) build/libshawm.a
 
 lib: build/libshawm.a build/libshawm.so build/include/shawm.h build/shawm.pc
 
-build/libshawm.a: crates.txt $(shell find crates -type f)
-	rt staticlib shawm
+build/libshawm.a: $(sources)
+	cd crates/shawm && rt lib
 	@mkdir -p build
-	cp target/staticlib/libshawm.a $@
+	cp crates/shawm/out/libshawm.a $@
+
+target/staticlib/libmeasure.a: $(sources)
+	cd crates/measure && rt lib
+	@mkdir -p target/staticlib
+	cp crates/measure/out/libmeasure.a $@
 
 # The same functions for a program that loads them as it runs, as the screen does.
 build/libshawm.so: build/libshawm.a
@@ -151,4 +161,4 @@ test-tshark:
 	bash tests/agreement/views
 
 clean:
-	rm -rf build target bench/target
+	rm -rf build target bench/target crates/*/out

@@ -1,3 +1,4 @@
+use Rattle.std.proofs.Common.{◌≡◌, arith}
 use Rattle.message.specs.Frame as Spec
 use Rattle.octets.proofs.Tests.{tests}
 use Rattle.message.proofs.framing.kind_of.Goals as goal
@@ -24,7 +25,7 @@ returns-in-5 c = rw c.in-5.is
 
 pub returns-in-0 : goal.returns-in-0
 unfolding Spec.kind_of
-returns-in-0 c = rw c.in-0.in-0-own.keys6
+returns-in-0 c = let z : c.args.message_type ≡ 0 = omega arith in rw z
 
 pub returns-in-0-2 : goal.returns-in-0-2
 unfolding Spec.kind_of

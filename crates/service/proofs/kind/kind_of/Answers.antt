@@ -1,3 +1,4 @@
+use Rattle.std.proofs.Common.{◌≡◌, arith}
 use Rattle.service.specs.Request as Spec
 use Rattle.octets.proofs.Tests.{tests}
 use Rattle.service.proofs.kind.kind_of.Goals as goal
@@ -36,7 +37,7 @@ returns-in-8 c = rw c.in-8.is
 
 pub returns-in-0 : goal.returns-in-0
 unfolding Spec.kind_of
-returns-in-0 c = rw c.in-0.in-0-own.keys9
+returns-in-0 c = let z : c.args.first ≡ 0 = omega arith in rw z
 
 pub returns-in-0-2 : goal.returns-in-0-2
 unfolding Spec.kind_of

@@ -1,3 +1,4 @@
+use Rattle.std.proofs.Common.{◌≡◌, arith}
 use Rattle.octets.proofs.Tests.{tests}
 use Rattle.shawm.specs.Tag.{part_bounds}
 use Rattle.shawm.proofs.tag.part_bounds.Goals as goal
@@ -16,7 +17,7 @@ returns-in-3 c = rw c.in-3.is c.data_bounds.ensures
 
 pub returns-in-0 : goal.returns-in-0
 unfolding part_bounds
-returns-in-0 c = rw c.in-0.in-0-own.keys4
+returns-in-0 c = let z : c.args.part ≡ 0 = omega arith in rw z
 
 pub returns-in-0-2 : goal.returns-in-0-2
 unfolding part_bounds
