@@ -45,7 +45,15 @@ pub fn number32(line: &[u8], back: usize) -> u32 {
     (number(line, back) % 4294967296) as u32
 }
 
-// A sum of a few never overflows.
 pub fn number16(line: &[u8], back: usize) -> u16 {
     (number(line, back) % 65536) as u16
+}
+
+pub fn endpoint(line: &[u8], back: usize) -> u32 {
+    number32(line, back)
+}
+
+// Of a field: a sum of a few never overflows.
+pub fn length(line: &[u8], back: usize) -> u16 {
+    number16(line, back)
 }

@@ -1,6 +1,8 @@
 // The words of the answers, each by its number: in one list, since a text in a function makes its
 // proof long.
 use crate::{pieces, print};
+use std::io;
+use std::io::Write;
 
 pub const COLON: usize = 0;
 
@@ -140,9 +142,11 @@ pub const HIGHEST: usize = 67;
 
 pub const UPDATE: usize = 68;
 
-pub fn say(n: usize) {
-    print::text(pieces::piece(
-        b"|: |\n| |[|]| octets|refusal |: yes\n|: no\n|STUN|DTLS|RTP|Other|sort first=|Short\
+pub fn say(to: &mut impl Write, n: usize) -> io::Result<()> {
+    print::text(
+        to,
+        pieces::piece(
+            b"|: |\n| |[|]| octets|refusal |: yes\n|: no\n|STUN|DTLS|RTP|Other|sort first=|Short\
         |Full|Extension | front=| ciphertext=| spi=| epoch=| data=|type |more needed| taken \
         | body=|SupportedProfiles version=|UnsupportedVersion version=|MediaKeys\
         |TunneledDtls|EndpointDisconnect| list=| identifier=| profile=| mki=| client_key=\
@@ -151,6 +155,7 @@ pub fn say(n: usize) {
         |disconnected|version |found| keyed|  profile |  mki length=|  key length=\
         |  salt length=| octets=|ZRTP|TURN channel|index=| under roc=|, kept roc=| highest=\
         |, update ",
-        n,
-    ));
+            n,
+        ),
+    )
 }
