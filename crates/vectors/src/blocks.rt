@@ -2,13 +2,14 @@
 use crate::cases;
 use lines::words::say;
 use lines::{print, words};
+use std::io;
 
-pub fn case(line: &[u8], given: &[u8]) {
-    cases::echo(line);
-    say(words::COLON);
+pub fn case(to: &mut impl io::Write, line: &[u8], given: &[u8]) -> io::Result<()> {
+    cases::echo(to, line)?;
+    say(to, words::COLON)?;
     let w = schedule(given);
-    answered(cases::call(line), &w, octets::part(given, 16, 32));
-    say(words::END_LINE);
+    answered(to, cases::call(line), &w, octets::part(given, 16, 32))?;
+    say(to, words::END_LINE)
 }
 
 pub fn schedule(given: &[u8]) -> [u8; 176] {
@@ -17,17 +18,17 @@ pub fn schedule(given: &[u8]) -> [u8; 176] {
     aes::expand(key)
 }
 
-fn answered(call: u8, w: &[u8; 176], given: &[u8]) {
+fn answered(to: &mut impl io::Write, call: u8, w: &[u8; 176], given: &[u8]) -> io::Result<()> {
     let mut block = [0; 16];
     octets::put_octets(&mut block, 0, given);
     match call {
-        b'k' => print::octet_row(w),
-        b'd' => row(aes::decrypt_block(w, block)),
-        _ => row(aes::encrypt_block(w, block)),
+        b'k' => print::octet_row(to, w),
+        b'd' => row(to, aes::decrypt_block(w, block)),
+        _ => row(to, aes::encrypt_block(w, block)),
     }
 }
 
-fn row(block: [u8; 16]) {
+fn row(to: &mut impl io::Write, block: [u8; 16]) -> io::Result<()> {
     let b = block;
-    print::octet_row(&b);
+    print::octet_row(to, &b)
 }

@@ -3,6 +3,7 @@
 use crate::{blocks, index, keys, pages, profiles, reading, sorting, table, tags, writing};
 use distributor::BLOCK;
 use lines::{pieces, print, rows};
+use std::io;
 
 const CALL: usize = 8;
 
@@ -10,42 +11,51 @@ const CALL: usize = 8;
 const OCTETS: usize = 65600;
 
 // The first line is a heading.
-pub fn run(cases: &[u8]) {
+pub fn run(to: &mut impl io::Write, cases: &[u8]) -> io::Result<()> {
     let mut state = distributor::first_state();
     for i in 0..cases.len() {
-        next(&mut state, octets::part(cases, i, cases.len()));
+        next(to, &mut state, octets::part(cases, i, cases.len()))?;
     }
+    Ok(())
 }
 
 // The line behind a line's end.
-fn next(state: &mut [u8; BLOCK], rest: &[u8]) {
+fn next(to: &mut impl io::Write, state: &mut [u8; BLOCK], rest: &[u8]) -> io::Result<()> {
     if octets::octet(rest, 0) == b'\n' {
         case(
+            to,
             state,
             pieces::before(octets::part(rest, 1, rest.len()), b'\n'),
-        );
+        )
+    } else {
+        Ok(())
     }
 }
 
-fn case(state: &mut [u8; BLOCK], line: &[u8]) {
+fn case(to: &mut impl io::Write, state: &mut [u8; BLOCK], line: &[u8]) -> io::Result<()> {
     let mut space = [0u8; OCTETS];
     let count = rows::read(pieces::before(line, b']'), &mut space);
-    ask(state, line, octets::part(&space, 0, count));
+    ask(to, state, line, octets::part(&space, 0, count))
 }
 
-fn ask(state: &mut [u8; BLOCK], line: &[u8], given: &[u8]) {
+fn ask(
+    to: &mut impl io::Write,
+    state: &mut [u8; BLOCK],
+    line: &[u8],
+    given: &[u8],
+) -> io::Result<()> {
     match octets::octet(line, 0) {
-        b'a' => blocks::case(line, given),
-        b'd' => sorting::case(line, given),
-        b'e' => tags::case(line, given),
-        b'i' => index::case(line),
-        b'k' => keys::case(line, given),
-        b'r' => reading::case(line, given),
-        b'w' => writing::case(line, given),
-        b'p' => profiles::case(line, given),
-        b's' => pages::case(line, given),
-        b't' => table::case(state, line, given),
-        _ => {}
+        b'a' => blocks::case(to, line, given),
+        b'd' => sorting::case(to, line, given),
+        b'e' => tags::case(to, line, given),
+        b'i' => index::case(to, line),
+        b'k' => keys::case(to, line, given),
+        b'r' => reading::case(to, line, given),
+        b'w' => writing::case(to, line, given),
+        b'p' => profiles::case(to, line, given),
+        b's' => pages::case(to, line, given),
+        b't' => table::case(to, state, line, given),
+        _ => Ok(()),
     }
 }
 
@@ -55,15 +65,15 @@ pub fn call(line: &[u8]) -> u8 {
 }
 
 // The text, of a row without its brackets.
-pub fn echo(line: &[u8]) {
+pub fn echo(to: &mut impl io::Write, line: &[u8]) -> io::Result<()> {
     let text = pieces::behind(line, b'|');
     match call(line) {
-        b'r' => row(text),
-        _ => print::text(text),
+        b'r' => row(to, text),
+        _ => print::text(to, text),
     }
 }
 
-fn row(text: &[u8]) {
-    print::text(pieces::before(text, b'['));
-    print::text(pieces::before(pieces::behind(text, b'['), b']'));
+fn row(to: &mut impl io::Write, text: &[u8]) -> io::Result<()> {
+    print::text(to, pieces::before(text, b'['))?;
+    print::text(to, pieces::before(pieces::behind(text, b'['), b']'))
 }

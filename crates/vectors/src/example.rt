@@ -3,20 +3,21 @@ use crate::cases;
 use crate::outputs::FILL;
 use lines::words::say;
 use lines::{print, words};
+use std::io;
 
-pub fn case(line: &[u8], list: &[u8]) {
-    cases::echo(line);
+pub fn case(to: &mut impl io::Write, line: &[u8], list: &[u8]) -> io::Result<()> {
+    cases::echo(to, line)?;
     let mut out = [FILL; 10];
     writers::write_supported_profiles(0, list, &mut out);
-    compare(&message::two_profiles(), &out);
+    compare(to, &message::two_profiles(), &out)
 }
 
-fn compare(example: &[u8], written: &[u8]) {
-    say(words::SPACE);
-    print::octet_row(example);
+fn compare(to: &mut impl io::Write, example: &[u8], written: &[u8]) -> io::Result<()> {
+    say(to, words::SPACE)?;
+    print::octet_row(to, example)?;
     if octets::same(example, written) {
-        say(words::SAME);
+        say(to, words::SAME)
     } else {
-        say(words::DIFFERENT);
+        say(to, words::DIFFERENT)
     }
 }

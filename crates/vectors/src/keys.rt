@@ -6,52 +6,53 @@ use keywrap::limits::CIPHERTEXT;
 use keywrap::{Unwrapped, Wrapped};
 use lines::words::say;
 use lines::{numbers, print, words};
+use std::io;
 
-pub fn case(line: &[u8], given: &[u8]) {
-    cases::echo(line);
-    say(words::COLON);
+pub fn case(to: &mut impl io::Write, line: &[u8], given: &[u8]) -> io::Result<()> {
+    cases::echo(to, line)?;
+    say(to, words::COLON)?;
     match cases::call(line) {
-        b'w' => wrap(line, given),
-        b'u' => unwrap(line, given),
-        b'p' => process(true, given),
-        _ => process(false, given),
+        b'w' => wrap(to, line, given),
+        b'u' => unwrap(to, line, given),
+        b'p' => process(to, true, given),
+        _ => process(to, false, given),
     }
 }
 
-fn wrap(line: &[u8], given: &[u8]) {
+fn wrap(to: &mut impl io::Write, line: &[u8], given: &[u8]) -> io::Result<()> {
     let mut space = [FILL; 256];
     let out = outputs::first(&mut space, numbers::number(line, 0));
     let end = numbers::number(line, 1);
     let plaintext = octets::part(given, end, given.len());
     match keywrap::wrap(octets::part(given, 0, end), plaintext, out) {
-        Wrapped::KeyLength => writes::refused(octets::refusal::EKT_KEY_OR_SALT_LENGTH, out),
-        Wrapped::PlaintextLength => writes::refused(octets::refusal::PLAINTEXT_LENGTH, out),
-        Wrapped::NoRoom => writes::refused(octets::refusal::NO_ROOM, out),
-        Wrapped::Written { count } => written(count, out),
+        Wrapped::KeyLength => writes::refused(to, octets::refusal::EKT_KEY_OR_SALT_LENGTH, out),
+        Wrapped::PlaintextLength => writes::refused(to, octets::refusal::PLAINTEXT_LENGTH, out),
+        Wrapped::NoRoom => writes::refused(to, octets::refusal::NO_ROOM, out),
+        Wrapped::Written { count } => written(to, count, out),
     }
 }
 
-fn unwrap(line: &[u8], given: &[u8]) {
+fn unwrap(to: &mut impl io::Write, line: &[u8], given: &[u8]) -> io::Result<()> {
     let mut space = [FILL; 256];
     let out = outputs::first(&mut space, numbers::number(line, 0));
     let end = numbers::number(line, 1);
     let ciphertext = octets::part(given, end, given.len());
     match keywrap::unwrap(octets::part(given, 0, end), ciphertext, out) {
-        Unwrapped::KeyLength => writes::refused(octets::refusal::EKT_KEY_OR_SALT_LENGTH, out),
-        Unwrapped::BadCiphertext => writes::refused(octets::refusal::BAD_CIPHERTEXT, out),
-        Unwrapped::NoRoom => writes::refused(octets::refusal::NO_ROOM, out),
-        Unwrapped::Written { count } => written(count, out),
+        Unwrapped::KeyLength => writes::refused(to, octets::refusal::EKT_KEY_OR_SALT_LENGTH, out),
+        Unwrapped::BadCiphertext => writes::refused(to, octets::refusal::BAD_CIPHERTEXT, out),
+        Unwrapped::NoRoom => writes::refused(to, octets::refusal::NO_ROOM, out),
+        Unwrapped::Written { count } => written(to, count, out),
     }
 }
 
-fn written(count: usize, out: &[u8]) {
-    print::octet_row(octets::part(out, 0, count));
-    print::part(words::BEHIND, octets::part(out, count, out.len()));
-    say(words::END_LINE);
+fn written(to: &mut impl io::Write, count: usize, out: &[u8]) -> io::Result<()> {
+    print::octet_row(to, octets::part(out, 0, count))?;
+    print::part(to, words::BEHIND, octets::part(out, count, out.len()))?;
+    say(to, words::END_LINE)
 }
 
 // The registers in place, forward or back.
-fn process(forward: bool, given: &[u8]) {
+fn process(to: &mut impl io::Write, forward: bool, given: &[u8]) -> io::Result<()> {
     let mut space = [0; CIPHERTEXT];
     let count = octets::put_octets(&mut space, 0, octets::part(given, 16, given.len()));
     let x = outputs::first(&mut space, count);
@@ -61,6 +62,6 @@ fn process(forward: bool, given: &[u8]) {
     } else {
         keywrap::unwrap_in_place(&w, x);
     }
-    print::octet_row(x);
-    say(words::END_LINE);
+    print::octet_row(to, x)?;
+    say(to, words::END_LINE)
 }

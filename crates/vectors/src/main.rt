@@ -1,5 +1,7 @@
 // Worked octets and limits of documents 01 and 02, run through the libraries. Standard input holds the cases,
 // one in a line; each is written out again with what the library answered.
+#![tactic(auto)]
+
 mod blocks;
 mod cases;
 mod example;
@@ -19,10 +21,11 @@ mod tags;
 mod writes;
 mod writing;
 
-use libc::STDIN_FILENO;
+use std::io;
+use std::io::Read;
 
-fn main() {
-    let mut space = io::large_buffer();
-    let count = io::read_full(STDIN_FILENO, &mut space);
-    cases::run(octets::part(&space, 0, count));
+fn main(rt: HostRuntime) -> io::Result<()> {
+    let mut text = Vec::new(rt.alloc());
+    rt.stdin().read_to_end(&mut text)?;
+    cases::run(&mut rt.stdout(), &text)
 }

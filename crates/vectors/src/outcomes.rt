@@ -4,79 +4,91 @@ use distributor::{Ended, Opened, Received, Sent};
 use lines::words::say;
 use lines::{print, words};
 use octets::Bounds;
+use std::io;
 
 // With what then stands in the output.
-pub fn sent(answer: Sent, out: &[u8]) {
-    say(words::COLON);
+pub fn sent(to: &mut impl io::Write, answer: Sent, out: &[u8]) -> io::Result<()> {
+    say(to, words::COLON)?;
     match answer {
-        Sent::Refused { number } => writes::refused(number, out),
-        Sent::Written { count } => written(count, out),
+        Sent::Refused { number } => writes::refused(to, number, out),
+        Sent::Written { count } => written(to, count, out),
     }
 }
 
-fn written(count: usize, out: &[u8]) {
-    writes::written(count, out);
-    say(words::END_LINE);
+fn written(to: &mut impl io::Write, count: usize, out: &[u8]) -> io::Result<()> {
+    writes::written(to, count, out)?;
+    say(to, words::END_LINE)
 }
 
-pub fn opened(answer: Opened) {
-    say(words::COLON);
+pub fn opened(to: &mut impl io::Write, answer: Opened) -> io::Result<()> {
+    say(to, words::COLON)?;
     match answer {
-        Opened::Refused { number } => print::refusal(number),
-        Opened::At { place } => print::count(words::PLACE, place),
+        Opened::Refused { number } => print::refusal(to, number)?,
+        Opened::At { place } => print::count(to, words::PLACE, place)?,
     }
-    say(words::END_LINE);
+    say(to, words::END_LINE)
 }
 
-pub fn ended(answer: Ended) {
-    say(words::COLON);
+pub fn ended(to: &mut impl io::Write, answer: Ended) -> io::Result<()> {
+    say(to, words::COLON)?;
     match answer {
-        Ended::Refused { number } => print::refusal(number),
-        Ended::Done => say(words::DONE),
+        Ended::Refused { number } => print::refusal(to, number)?,
+        Ended::Done => say(to, words::DONE)?,
     }
-    say(words::END_LINE);
+    say(to, words::END_LINE)
 }
 
-pub fn received(answer: Received, lent: &[u8]) {
-    say(words::COLON);
-    told(answer, lent);
-    say(words::END_LINE);
+pub fn received(to: &mut impl io::Write, answer: Received, lent: &[u8]) -> io::Result<()> {
+    say(to, words::COLON)?;
+    told(to, answer, lent)?;
+    say(to, words::END_LINE)
 }
 
-fn told(answer: Received, lent: &[u8]) {
+fn told(to: &mut impl io::Write, answer: Received, lent: &[u8]) -> io::Result<()> {
     match answer {
-        Received::Refused { number, taken } => messages::refused(number, taken),
-        Received::BadBody { taken } => messages::refused(octets::refusal::BAD_BODY, taken),
-        Received::MoreNeeded => messages::done(words::MORE_NEEDED, 0),
-        Received::KeysStored { endpoint, taken } => named(words::KEYS_STORED, endpoint, taken),
+        Received::Refused { number, taken } => messages::refused(to, number, taken),
+        Received::BadBody { taken } => messages::refused(to, octets::refusal::BAD_BODY, taken),
+        Received::MoreNeeded => messages::done(to, words::MORE_NEEDED, 0),
+        Received::KeysStored { endpoint, taken } => named(to, words::KEYS_STORED, endpoint, taken),
         Received::Delivery {
             endpoint,
             dtls,
             taken,
-        } => delivery(lent, endpoint, dtls, taken),
-        Received::Disconnected { endpoint, taken } => named(words::DISCONNECTED, endpoint, taken),
-        Received::Version { version, taken } => version_told(version, taken),
+        } => delivery(to, lent, endpoint, dtls, taken),
+        Received::Disconnected { endpoint, taken } => named(
+            to,
+            words::DISCONNECTED,
+            endpoint,
+            taken,
+        ),
+        Received::Version { version, taken } => version_told(to, version, taken),
     }
 }
 
 // With the endpoint of the association that the message names.
-fn named(word: usize, endpoint: u32, taken: usize) {
-    say(word);
-    print::count(words::ENDPOINT, endpoint as usize);
-    messages::took(taken);
+fn named(to: &mut impl io::Write, word: usize, endpoint: u32, taken: usize) -> io::Result<()> {
+    say(to, word)?;
+    print::count(to, words::ENDPOINT, endpoint as usize)?;
+    messages::took(to, taken)
 }
 
 // With the DTLS octets, which stand in the lent ones.
-fn delivery(lent: &[u8], endpoint: u32, dtls: Bounds, taken: usize) {
-    say(words::DELIVERY);
-    print::count(words::ENDPOINT, endpoint as usize);
-    print::part(words::DTLS_OCTETS, octets::part_in(lent, dtls));
-    print::count(words::START, dtls.start);
-    print::count(words::END, dtls.end);
-    messages::took(taken);
+fn delivery(
+    to: &mut impl io::Write,
+    lent: &[u8],
+    endpoint: u32,
+    dtls: Bounds,
+    taken: usize,
+) -> io::Result<()> {
+    say(to, words::DELIVERY)?;
+    print::count(to, words::ENDPOINT, endpoint as usize)?;
+    print::part(to, words::DTLS_OCTETS, octets::part_in(lent, dtls))?;
+    print::count(to, words::START, dtls.start)?;
+    print::count(to, words::END, dtls.end)?;
+    messages::took(to, taken)
 }
 
-fn version_told(version: u8, taken: usize) {
-    print::count(words::VERSION, version as usize);
-    messages::took(taken);
+fn version_told(to: &mut impl io::Write, version: u8, taken: usize) -> io::Result<()> {
+    print::count(to, words::VERSION, version as usize)?;
+    messages::took(to, taken)
 }

@@ -2,24 +2,26 @@
 use crate::cases;
 use lines::words::say;
 use lines::{print, words};
+use std::io;
 
-pub fn case(line: &[u8], given: &[u8]) {
-    cases::echo(line);
+pub fn case(to: &mut impl io::Write, line: &[u8], given: &[u8]) -> io::Result<()> {
+    cases::echo(to, line)?;
     match cases::call(line) {
-        b'k' => key_length(octets::number16(given, 0)),
-        b'g' => print::yes_or_no(message::good_list(given)),
+        b'k' => key_length(to, octets::number16(given, 0)),
+        b'g' => print::yes_or_no(to, message::good_list(given)),
         _ => in_list(
+            to,
             octets::number16(given, 0),
             octets::part(given, 2, given.len()),
         ),
     }
 }
 
-fn in_list(profile: u16, list: &[u8]) {
-    print::yes_or_no(message::in_list(profile, list));
+fn in_list(to: &mut impl io::Write, profile: u16, list: &[u8]) -> io::Result<()> {
+    print::yes_or_no(to, message::in_list(profile, list))
 }
 
-fn key_length(profile: u16) {
-    print::count(words::COLON, message::key_length(profile) as usize);
-    say(words::END_LINE);
+fn key_length(to: &mut impl io::Write, profile: u16) -> io::Result<()> {
+    print::count(to, words::COLON, message::key_length(profile) as usize)?;
+    say(to, words::END_LINE)
 }

@@ -3,16 +3,25 @@ use crate::outputs::FILL;
 use crate::{cases, outcomes, pages, records, sending};
 use distributor::BLOCK;
 use lines::numbers;
+use std::io;
 
-pub fn case(state: &mut [u8; BLOCK], line: &[u8], given: &[u8]) {
+pub fn case(
+    to: &mut impl io::Write,
+    state: &mut [u8; BLOCK],
+    line: &[u8],
+    given: &[u8],
+) -> io::Result<()> {
     match cases::call(line) {
-        b'f' => first(state, given),
-        b'o' => open(state, line, given),
-        b't' => tunnel_octets(state, line, given),
-        b'e' => end(state, line),
-        b'l' => look(state, line),
-        b'p' => pages::write(state, line),
-        _ => sending::case(state, line, given),
+        b'f' => {
+            first(state, given);
+            Ok(())
+        }
+        b'o' => open(to, state, line, given),
+        b't' => tunnel_octets(to, state, line, given),
+        b'e' => end(to, state, line),
+        b'l' => look(to, state, line),
+        b'p' => pages::write(to, state, line),
+        _ => sending::case(to, state, line, given),
     }
 }
 
@@ -23,22 +32,35 @@ fn first(state: &mut [u8; BLOCK], list: &[u8]) {
     distributor::start(state, list, &mut out);
 }
 
-fn open(state: &mut [u8; BLOCK], line: &[u8], identifier: &[u8]) {
-    cases::echo(line);
-    outcomes::opened(distributor::open(state, identifier, numbers::number32(line, 0)));
+fn open(
+    to: &mut impl io::Write,
+    state: &mut [u8; BLOCK],
+    line: &[u8],
+    identifier: &[u8],
+) -> io::Result<()> {
+    cases::echo(to, line)?;
+    outcomes::opened(
+        to,
+        distributor::open(state, identifier, numbers::endpoint(line, 0)),
+    )
 }
 
-fn tunnel_octets(state: &mut [u8; BLOCK], line: &[u8], lent: &[u8]) {
-    cases::echo(line);
-    outcomes::received(distributor::tunnel_octets(state, lent), lent);
+fn tunnel_octets(
+    to: &mut impl io::Write,
+    state: &mut [u8; BLOCK],
+    line: &[u8],
+    lent: &[u8],
+) -> io::Result<()> {
+    cases::echo(to, line)?;
+    outcomes::received(to, distributor::tunnel_octets(state, lent), lent)
 }
 
-fn end(state: &mut [u8; BLOCK], line: &[u8]) {
-    cases::echo(line);
-    outcomes::ended(distributor::end(state));
+fn end(to: &mut impl io::Write, state: &mut [u8; BLOCK], line: &[u8]) -> io::Result<()> {
+    cases::echo(to, line)?;
+    outcomes::ended(to, distributor::end(state))
 }
 
-fn look(state: &[u8; BLOCK], line: &[u8]) {
-    cases::echo(line);
-    records::looked(distributor::look(state, numbers::number32(line, 0)));
+fn look(to: &mut impl io::Write, state: &[u8; BLOCK], line: &[u8]) -> io::Result<()> {
+    cases::echo(to, line)?;
+    records::looked(to, distributor::look(state, numbers::endpoint(line, 0)))
 }

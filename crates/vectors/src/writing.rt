@@ -3,21 +3,22 @@
 use crate::outputs::{FILL, ROOM};
 use crate::{cases, example, outputs, writes};
 use lines::numbers;
+use std::io;
 use writers::Write;
 
-pub fn case(line: &[u8], given: &[u8]) {
+pub fn case(to: &mut impl io::Write, line: &[u8], given: &[u8]) -> io::Result<()> {
     match cases::call(line) {
-        b's' => example::case(line, given),
-        _ => output(line, given),
+        b's' => example::case(to, line, given),
+        _ => output(to, line, given),
     }
 }
 
-fn output(line: &[u8], given: &[u8]) {
-    cases::echo(line);
+fn output(to: &mut impl io::Write, line: &[u8], given: &[u8]) -> io::Result<()> {
+    cases::echo(to, line)?;
     let mut space = [FILL; ROOM];
     let out = outputs::first(&mut space, numbers::number(line, 0));
     let answer = write(line, given, out);
-    writes::outcome(answer, out);
+    writes::outcome(to, answer, out)
 }
 
 fn write(line: &[u8], given: &[u8], out: &mut [u8]) -> Write {
@@ -49,11 +50,11 @@ fn tunneled_dtls(line: &[u8], given: &[u8], out: &mut [u8]) -> Write {
 }
 
 fn media_keys(line: &[u8], given: &[u8], out: &mut [u8]) -> Write {
-    let identifier = numbers::number16(line, 6) as usize;
-    let mki = identifier + numbers::number16(line, 5) as usize;
-    let client_key = mki + numbers::number16(line, 4) as usize;
-    let server_key = client_key + numbers::number16(line, 3) as usize;
-    let client_salt = server_key + numbers::number16(line, 2) as usize;
+    let identifier = numbers::length(line, 6) as usize;
+    let mki = identifier + numbers::length(line, 5) as usize;
+    let client_key = mki + numbers::length(line, 4) as usize;
+    let server_key = client_key + numbers::length(line, 3) as usize;
+    let client_salt = server_key + numbers::length(line, 2) as usize;
     write_keys(
         given,
         identifier,
