@@ -67,12 +67,12 @@ impl Relay {
         Err(Failure::new(format!("at the end: {status}, {} octets more ({more}), errors: {errors:?}", rest.len())))
     }
 
-    /// Waits until it stops by itself, with the input still open: by SIGPIPE, or with status 0.
+    /// Waits until it stops by itself, with the input still open: with status 1, since an answer could not be written.
     pub fn stopped(mut self) -> Result<(), Failure> {
         for _ in 0..500 {
             match self.child.try_wait() {
                 Ok(None) => std::thread::sleep(std::time::Duration::from_millis(10)),
-                Ok(Some(status)) if status.code() == Some(0) || status.signal() == Some(13) => return Ok(()),
+                Ok(Some(status)) if status.code() == Some(1) => return Ok(()),
                 other => return Err(Failure::new(format!("output not read: {other:?}"))),
             }
         }
