@@ -1,4 +1,4 @@
-// Links the archive that `rt staticlib measure` writes, and to `wrap` the library too. PLACE, from
+// Links the archive of `crates/measure` that `make bench` makes, and to `wrap` the library too. PLACE, from
 // 0 to 3, moves all code by so many times 16 octets.
 fn main() {
     let root = std::env::var("CARGO_MANIFEST_DIR").unwrap();
