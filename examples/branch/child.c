@@ -17,8 +17,8 @@ extern char **environ;
 
 enum { END_LIMIT = 2000 };
 
-/* The child's ends become its standard input and output. SIGPIPE is ignored here and must not be there: it is what
- * ends a relay whose answers nobody reads. An errno, or 0. */
+/* The child's ends become its standard input and output. SIGPIPE is ignored here and usual there: it is what ends a
+ * relay whose answers nobody reads, unless it goes by the write that fails, as ours does. An errno, or 0. */
 static int spawn(struct relay *relay, const char *path, int in, int out)
 {
     char *arguments[] = { (char *)path, NULL };

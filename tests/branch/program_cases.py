@@ -125,11 +125,14 @@ def numbers_that_are_in_no_list(bench):
         bench.close()
 
 
+# A stand-in's answer to Start.
+STARTED = "dd bs=1 count=7 2> /dev/null > /dev/null\n%sprintf '" + "".join(
+    "\\" + octet for octet in "000 013 002 001 000 007 000 000 004 000 011 000 012".split()) + "'\n"
+
+
 def relay_stops_reading(bench):
     """Its answer to Start, and then a closed input: the next request is an error and no signal."""
-    answer = "".join("\\" + octet for octet in "000 013 002 001 000 007 000 000 004 000 011 000 012".split())
-    branch, distributor = bench.start(relay=script(
-        bench, "dd bs=1 count=7 2> /dev/null > /dev/null\nexec 0< /dev/null\nprintf '%s'\nsleep 1\n" % answer))
+    branch, distributor = bench.start(relay=script(bench, STARTED % "exec 0< /dev/null\n" + "sleep 1\n"))
     branch.up()
     bench.expected = 1
     Booth(branch.port).send(DTLS)
@@ -138,11 +141,13 @@ def relay_stops_reading(bench):
 
 
 def relay_gets_what_it_needs(bench):
-    """Three descriptors and no other; and SIGPIPE as usual, which ends it when nobody reads its answers."""
+    """Three descriptors and no other; and SIGPIPE as usual. That is told by a stand-in: a Rattle program ignores SIGPIPE
+    by itself."""
     branch, _ = bench.up()
-    relay = branch.relay_process()
-    assert sorted(os.listdir("/proc/%d/fd" % relay)) == ["0", "1", "2"]
-    with open("/proc/%d/status" % relay) as status:
+    assert sorted(os.listdir("/proc/%d/fd" % branch.relay_process())) == ["0", "1", "2"]
+    bench.close()
+    branch, _ = bench.up(relay=script(bench, STARTED % "" + "exec cat > /dev/null\n"))
+    with open("/proc/%d/status" % branch.relay_process()) as status:
         ignored = [int(line.split()[1], 16) for line in status if line.startswith("SigIgn")]
     assert ignored and not ignored[0] & 1 << (signal.SIGPIPE - 1)
 

@@ -63,7 +63,9 @@ fn zeros_from(x: &[u8], from: usize, found: u8) -> bool
     bad == 0
 }
 
-// All checks are made, and what is told is only whether all were passed.
+// All checks are made, and what is told is only whether all were passed. Not inlined, so that the caller has one jump on it
+// and none on what it was worked out from.
+#[inline(never)]
 pub(crate) fn verified(x: &[u8]) -> bool
     requires { (16 ≤ length x.now) × (length x.now ≤ ciphertext_most) }
     ensures { result ≡ Spec.verified x.now }

@@ -4,7 +4,7 @@ ghost use Rattle.std.specs.Prelude.{◌≡◌, ◌≤◌, length, replicate};
 ghost use Rattle.keywrap.specs.Limits.{ciphertext_most};
 
 use crate::limits::KEY;
-use crate::loading::schedule;
+use crate::loading::load_schedule;
 use crate::process::{unwrap_steps, wrap_steps};
 
 // Every octet 0. The offset should be that of an octet, or nothing is read again.
@@ -21,15 +21,17 @@ pub(crate) fn clear(x: &mut [u8], at: usize) -> u8
 
 // A key schedule and registers cleared. Then what the work under the key left on the stack and in the processor's
 // registers is overwritten by the same work under a key of octets 0: its schedule, and a step or two forward and back on
-// the cleared registers, which come back as they were. A compiler that knew how many
-// would inline them and put their states elsewhere on the stack.
+// the cleared registers, which come back as they were. This function is always inlined and those that it calls never, so
+// that both times these stand at the same place on the stack.
+#[inline(always)]
 pub(crate) fn forget(w: &mut [u8; 176], x: &mut [u8], at: usize) -> u8
     requires { (16 ≤ length x.old) × (length x.old ≤ ciphertext_most) }
     ensures { (result ≡ 0) × (w.new ≡ replicate (length w.old) 0) × (x.new ≡ replicate (length x.old) 0) }
 {
     let left = clear(w, at % 128) | clear(x, at % 16);
     let key = [0; KEY];
-    let zero = schedule(&key);
+    let mut zero = [0; 176];
+    load_schedule(&key, &mut zero);
     let steps = 1 + at % 256 / 128;
     wrap_steps(&zero, steps, x);
     unwrap_steps(&zero, steps, x);

@@ -19,6 +19,16 @@ pub(crate) fn schedule(key: &[u8]) -> [u8; 176]
     expand(k)
 }
 
+// The same, put where the caller keeps it. What is copied on the way lies in this function's own stretch of the stack,
+// which its next call overwrites.
+#[inline(never)]
+pub(crate) fn load_schedule(key: &[u8], w: &mut [u8; 176])
+    requires { length key.now ≡ key_length }
+    ensures { w.new ≡ key_expansion key.now }
+{
+    *w = schedule(key);
+}
+
 // The length of the ciphertext of m octets.
 pub(crate) fn wrapped_length(m: usize) -> usize
     requires { m ≤ plaintext_most }

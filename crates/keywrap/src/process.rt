@@ -47,6 +47,7 @@ pub(crate) fn wrap_registers(w: &[u8; 176], x: &mut [u8])
 }
 
 // The first steps.
+#[inline(never)]
 pub(crate) fn wrap_steps(w: &[u8; 176], steps: usize, x: &mut [u8])
     requires { (steps < 256) × (16 ≤ length x.old) × (length x.old ≤ ciphertext_most) }
     ensures { x.new ≡ Spec.wrap_steps w.now steps x.old }
@@ -72,6 +73,7 @@ pub(crate) fn unwrap_registers(w: &[u8; 176], x: &mut [u8])
 }
 
 // The first steps undone, from the last of them on.
+#[inline(never)]
 pub(crate) fn unwrap_steps(w: &[u8; 176], steps: usize, x: &mut [u8])
     requires { (steps < 256) × (16 ≤ length x.old) × (length x.old ≤ ciphertext_most) }
     ensures { x.new ≡ Spec.unwrap_steps w.now steps x.old }

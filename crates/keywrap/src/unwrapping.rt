@@ -9,7 +9,7 @@ ghost use Rattle.keywrap.specs.Padding as Spec;
 use crate::checks::{length_fits, mli, verified};
 use crate::clearing::forget;
 use crate::limits::{CIPHERTEXT, KEY};
-use crate::loading::schedule;
+use crate::loading::load_schedule;
 use crate::process::unwrap_registers;
 
 #[derive(Clone, Copy)]
@@ -39,7 +39,8 @@ fn unwrap_lent(key: &[u8], c: &[u8], out: &mut [u8]) -> Unwrapped
         return Unwrapped::BadCiphertext;
     }
     let n = c.len();
-    let mut w = schedule(key);
+    let mut w = [0; 176];
+    load_schedule(key, &mut w);
     let mut x = [0; CIPHERTEXT];
     let answer = unwrap_in(&w, c, &mut x[..n], out);
     cleared(answer, forget(&mut w, &mut x, n))

@@ -6,7 +6,7 @@ ghost use Rattle.keywrap.specs.Padding as Spec;
 
 use crate::clearing::forget;
 use crate::limits::{CIPHERTEXT, KEY, MOST};
-use crate::loading::{load, schedule, wrapped_length};
+use crate::loading::{load, load_schedule, wrapped_length};
 use crate::process::wrap_registers;
 
 #[derive(Clone, Copy)]
@@ -44,7 +44,8 @@ fn wrap_into(key: &[u8], plaintext: &[u8], x: &mut [u8]) -> u8
     ensures { (result ≡ 0) × (x.new ≡ Spec.wrap key.now plaintext.now) }
 {
     load(plaintext, x);
-    let mut w = schedule(key);
+    let mut w = [0; 176];
+    load_schedule(key, &mut w);
     wrap_registers(&w, x);
     let mut space = [0; CIPHERTEXT];
     forget(&mut w, &mut space, plaintext.len())

@@ -18,7 +18,7 @@ returns c =
     let n = length a.x.now in
     let z : List ℕ = replicate n 0 in
     let w = key_expansion k in
-    let s = c.schedule-zero.ensures in
+    let s = c.load_schedule.ensures in
     let least : 16 ≤ n = c.requires.0 in
     let back : unwrap_steps w steps (wrap_steps w steps z) ≡ z =
     steps_back w (expansion_octets k (zeros_octets 16)) steps z

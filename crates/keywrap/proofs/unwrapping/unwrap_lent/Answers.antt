@@ -58,9 +58,9 @@ returns c =
     let k = a.c.now in
     let o = a.out.now in
     let f : length_fits (length k) ≡ true = sym c.length_fits.ensures ∙ c.if-not-length_fits.false in
-    let t = ap (λ (w : List ℕ). taking (unwrap_registers w k) (length o)) c.schedule-w.ensures ∙ sym (when_fitting a.key.now k (length o) (omega arith) f) in (
+    let t = ap (λ (w : List ℕ). taking (unwrap_registers w k) (length o)) c.load_schedule.ensures ∙ sym (when_fitting a.key.now k (length o) (omega arith) f) in (
       ap unwrapped_answer c.cleared.ensures ∙ c.unwrap_in-answer.ensures.0 ∙ t,
       c.unwrap_in-answer.ensures.1
-          ∙ ap (λ (v : Answer). output_after v (plaintext_in (unwrap_registers c.schedule-w.result k)) o) t
-          ∙ ap (λ (w : List ℕ). output_after (unwrapping a.key.now k (length o)) (plaintext_in (unwrap_registers w k)) o) c.schedule-w.ensures,
+          ∙ ap (λ (v : Answer). output_after v (plaintext_in (unwrap_registers c.load_schedule.new.w k)) o) t
+          ∙ ap (λ (w : List ℕ). output_after (unwrapping a.key.now k (length o)) (plaintext_in (unwrap_registers w k)) o) c.load_schedule.ensures,
     )

@@ -16,4 +16,4 @@ wrap_registers-requires c =
 
 pub returns : goal.returns
 unfolding wrap
-returns c = (c.forget.ensures.0, rw (c.wrap_registers.ensures, c.schedule-w.ensures, c.load.ensures) refl)
+returns c = (c.forget.ensures.0, rw (c.wrap_registers.ensures, c.load_schedule.ensures, c.load.ensures) refl)
