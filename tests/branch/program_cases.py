@@ -146,7 +146,7 @@ def relay_gets_what_it_needs(bench):
     branch, _ = bench.up()
     assert sorted(os.listdir("/proc/%d/fd" % branch.relay_process())) == ["0", "1", "2"]
     bench.close()
-    branch, _ = bench.up(relay=script(bench, STARTED % "" + "exec cat > /dev/null\n"))
+    branch, _ = bench.up(relay=script(bench, STARTED % "" + "exec 3>&1 cat > /dev/null\n"))
     with open("/proc/%d/status" % branch.relay_process()) as status:
         ignored = [int(line.split()[1], 16) for line in status if line.startswith("SigIgn")]
     assert ignored and not ignored[0] & 1 << (signal.SIGPIPE - 1)
