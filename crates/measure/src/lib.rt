@@ -1,6 +1,7 @@
 // The calls exported for `make bench` and for nothing else: not the product's C interface.
 // A refusal is its number plus 2^32; what an accepted call answers stands at each function.
 #![tactic(auto)]
+
 use distributor::{BLOCK, Ended, Found, Opened, Received, Record, RecordKeys, Sent};
 
 const REFUSED: u64 = 0x1_0000_0000;
