@@ -69,6 +69,15 @@ def declared():
     return own
 
 
+def bound():
+    """Names that stand in the code of specs/ and proofs/ in camel case and that no file takes from the kit: what a signature
+    with an implicit argument declares, and what arguments bind."""
+    texts = [read(path) for path in files(".antt") if not path.endswith("/Proof.antt")]
+    kit = set().union(*map(from_kit, texts))
+    found = {name for text in texts for name in TOKEN.findall(without_remarks(text))}
+    return {name for name in found - kit if re.fullmatch(r"[a-z][A-Za-z0-9]*[A-Z][A-Za-z0-9]*", name)}
+
+
 def renames():
     own = declared()
     groups = {}
@@ -84,7 +93,7 @@ def renames():
                 out[name] = to
         if len(names) > 1:
             print("together:", ", ".join(f"{it} -> {out.get(it, it)}" for it in names))
-    return out
+    return {**{name: snake(name) for name in bound()}, **out}
 
 
 def turned(text, names, kit, is_proof):

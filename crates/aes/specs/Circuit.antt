@@ -1,5 +1,5 @@
--- The S-box as a circuit of 115 gates (Boyar and Peralta), in layers, for the code: no part of FIPS 197. That it computes `subByte` is
--- `circuit-rule` (proofs/CircuitLaws.antt).
+-- The S-box as a circuit of 115 gates (Boyar and Peralta), in layers, for the code: no part of FIPS 197. That it computes `sub_byte` is
+-- `circuit_rule` (proofs/CircuitLaws.antt).
 use Rattle.std.specs.Prelude.{ℕ, ◌+◌, ◌*◌, ◌/◌, ◌%◌}
 use Rattle.std.specs.Int.Bits.{bit_xor, bit_and}
 use Rattle.aes.specs.declared.circuit.Bits.{Bits}

@@ -25,7 +25,7 @@ unfoldable pub squares : (n b : ℕ) → ℕ
 squares zero b = 1
 squares (suc n) b = mul (mul b b) (squares n (mul b b))
 
--- the multiplicative inverse, 4.2, with 0 for 0 (5.1.1): b^254. That its product with b is 1 is `inverse-rule` (proofs/SBox.antt).
+-- the multiplicative inverse, 4.2, with 0 for 0 (5.1.1): b^254. That its product with b is 1 is `inverse_rule` (proofs/SBox.antt).
 unfoldable pub inverse : ℕ → ℕ
 inverse b = squares 7 b
 
@@ -45,7 +45,7 @@ affine b =
 unfoldable pub sub_byte : ℕ → ℕ
 sub_byte b = affine (inverse b)
 
--- the inverse of the affine transformation, which 5.3.2 gives in words alone; that it undoes it is `inv-affine-rule` (proofs/SBox.antt)
+-- the inverse of the affine transformation, which 5.3.2 gives in words alone; that it undoes it is `inv_affine_rule` (proofs/SBox.antt)
 unfoldable pub inv_affine : ℕ → ℕ
 inv_affine b = from_bits (λ i. (bit b ((i + 2) % 8) + bit b ((i + 5) % 8) + bit b ((i + 7) % 8) + bit 0x05 i) % 2)
 

@@ -39,7 +39,7 @@ none_left (x ∷ y ∷ t) k = absurd (omega arith)
 pub entries_end : (l : List ℕ) (at : ℕ) → length l ≤ at + 1 → entries (drop at l) ≡ []
 entries_end l at h = none_left (drop at l) (rw length-drop (omega arith))
 
--- ---- searching a list: the invariant is `inList p l ≡ in_list p (drop at l)`
+-- ---- searching a list: the invariant is `in_list p l ≡ in_list p (drop at l)`
 
 module _ (p : ℕ) (l : List ℕ) (at : ℕ) (e : in_list p l ≡ in_list p (drop at l)) where
   pub in_list_here : at + 1 < length l → number16_at l at ≡ p → in_list p l ≡ true

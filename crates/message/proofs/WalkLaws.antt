@@ -12,9 +12,9 @@ use Rattle.message.specs.Message.{vector8, vector16}
 use Rattle.message.specs.Walk.{walk_at, past, fixed, field8, field16, profile_list, complete}
 use Rattle.octets.proofs.HoldLaws.{Holds, holds_two, holds_within, holds_octet, holds_number}
 
-pub past_good : (bodyLength n at : ℕ) → at + n ≤ bodyLength → past bodyLength true n (walk_at true at) ≡ walk_at true (at + n)
+pub past_good : (body_length n at : ℕ) → at + n ≤ body_length → past body_length true n (walk_at true at) ≡ walk_at true (at + n)
 unfolding past
-past_good bodyLength n at h = rw (le-leb _ _ h)
+past_good body_length n at h = rw (le-leb _ _ h)
 
 pub fixed_good : {body x : List ℕ} {at : ℕ} → Holds body x at → (n : ℕ) → length x ≡ n → fixed body n (walk_at true at) ≡ walk_at true (at + n)
 unfolding fixed

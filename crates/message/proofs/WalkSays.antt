@@ -11,19 +11,19 @@ use Rattle.message.specs.Walk.{past, complete}
 use Rattle.message.specs.declared.walking.Walk.{Walk}
 
 -- the walk v is the walk w past n octets
-pub record Past (bodyLength : ℕ) (good : Bool) (n : ℕ) (w v : Walk) : Type 0 where
+pub record Past (body_length : ℕ) (good : Bool) (n : ℕ) (w v : Walk) : Type 0 where
   pub before : w.good ≡ true
   pub test : good ≡ true
-  pub inside : w.at + n ≤ bodyLength
+  pub inside : w.at + n ≤ body_length
   pub offset : v.at ≡ w.at + n
 
-pub past_says : (bodyLength : ℕ) (good : Bool) (n : ℕ) (w : Walk)
-    → (past bodyLength good n w).good ≡ true → Past bodyLength good n w (past bodyLength good n w)
+pub past_says : (body_length : ℕ) (good : Bool) (n : ℕ) (w : Walk)
+    → (past body_length good n w).good ≡ true → Past body_length good n w (past body_length good n w)
 unfolding past
-past_says bodyLength good n w =
-    by_choice (λ v. v.good ≡ true → Past bodyLength good n w v) (w.good && good && leb (w.at + n) bodyLength) _ _
+past_says body_length good n w =
+    by_choice (λ v. v.good ≡ true → Past body_length good n w v) (w.good && good && leb (w.at + n) body_length) _ _
     (λ e _.
-    let a = both (w.good && good) (leb (w.at + n) bodyLength) e in
+    let a = both (w.good && good) (leb (w.at + n) body_length) e in
     let b = both w.good good a.0 in
     record { before = b.0; test = b.1; inside = leb-true _ _ a.1; offset = refl })
     (λ _ h. absurd (false_true h))

@@ -6,7 +6,7 @@ use Rattle.message.specs.Read as Read
 use Rattle.message.specs.declared.framing.Kind.{Kind}
 
 -- what is so of a whole message of some kinds, by its body's length, and what of all else
-abbrev pub of_kinds : {X : Type 0} → (kinds : Kind → Bool) → Framing → (ofWhole : (bodyLength : ℕ) → X) (other : X) → X
+abbrev pub of_kinds : {X : Type 0} → (kinds : Kind → Bool) → Framing → (of_whole : (body_length : ℕ) → X) (other : X) → X
 of_kinds kinds more_needed x y = y
 of_kinds kinds (refused number taken) x y = y
 of_kinds kinds (version number) x y = y

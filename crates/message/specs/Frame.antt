@@ -22,7 +22,7 @@ pub data Framing : Type 0 where
   more_needed : Framing
   refused : (number taken : ℕ) → Framing
   version : (number : ℕ) → Framing
-  whole : (kind : Kind) (bodyLength : ℕ) → Framing
+  whole : (kind : Kind) (body_length : ℕ) → Framing
 
 -- step 2: length 0 is refusal 5, three taken; else, fewer than four octets: more needed; else accepted, whatever the length says
 unfoldable pub version_frame : List ℕ → Framing
@@ -50,4 +50,4 @@ framing_of Frame.MoreNeeded = more_needed
 framing_of Frame.EmptyVersion = refused 5 header
 framing_of (Frame.Version v) = version v
 framing_of Frame.Oversize = refused 2 0
-framing_of (Frame.Whole kind bodyLength) = whole kind bodyLength
+framing_of (Frame.Whole kind body_length) = whole kind body_length

@@ -11,9 +11,9 @@ abbrev pub begin : Walk
 begin = walk_at true 0
 
 -- past n octets where all was good, these are and they end within the body; else it stands still
-unfoldable pub past : (bodyLength : ℕ) (good : Bool) (n : ℕ) → Walk → Walk
-past bodyLength good n w =
-    cond (w.good && good && leb (w.at + n) bodyLength) (walk_at true (w.at + n)) (walk_at false w.at)
+unfoldable pub past : (body_length : ℕ) (good : Bool) (n : ℕ) → Walk → Walk
+past body_length good n w =
+    cond (w.good && good && leb (w.at + n) body_length) (walk_at true (w.at + n)) (walk_at false w.at)
 
 -- a field of n octets
 unfoldable pub fixed : List ℕ → ℕ → Walk → Walk

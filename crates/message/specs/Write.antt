@@ -32,11 +32,11 @@ fields_fit (tunneled_dtls identifier dtls) = within 1 most16 (length dtls)
 fields_fit (endpoint_disconnect identifier) = true
 
 -- a body within the limit, and a message that there is room for
-abbrev pub fitting : (bodyLength messageLength room : ℕ) → Answer
-fitting bodyLength messageLength room =
-    cond (ltb body_limit bodyLength) (refused 2)
-    (cond (ltb room messageLength) (refused 13)
-    (written messageLength))
+abbrev pub fitting : (body_length message_length room : ℕ) → Answer
+fitting body_length message_length room =
+    cond (ltb body_limit body_length) (refused 2)
+    (cond (ltb room message_length) (refused 13)
+    (written message_length))
 
 -- the earliest refusal, or the octets that are written; refusals 2 and 13 go by the encoding
 unfoldable pub writing : Message → (room : ℕ) → Answer

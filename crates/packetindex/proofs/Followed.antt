@@ -29,7 +29,7 @@ next_rises s sequence = go (estimating s sequence) refl
     go (Estimating.refused number) e = let k = ap highest_index (refused_keeps s sequence number e) in omega (arith, k)
     go (Estimating.found v i) e = let k = (updates s sequence v i e).greater in omega (arith, k, max_left (highest_index s) i)
 
-pub never_falls : (s : Stream) (sequenceNumbers : List ℕ) → highest_index s ≤ highest_index (follow s sequenceNumbers)
+pub never_falls : (s : Stream) (sequence_numbers : List ℕ) → highest_index s ≤ highest_index (follow s sequence_numbers)
 never_falls s [] = omega arith
 never_falls s (sequence ∷ rest) =
     let a = next_rises s sequence in

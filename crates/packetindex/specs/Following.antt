@@ -22,7 +22,7 @@ pub record UpdateByRoc (s : Stream) (sequence roc : ℕ) : Type 0 where
   pub one_more : roc ≡ s.roc + 1 → next s sequence ≡ record { roc = roc; highest = sequence }
 
 -- what is kept after packets with these sequence numbers
-abbrev pub follow : Stream → (sequenceNumbers : List ℕ) → Stream
+abbrev pub follow : Stream → (sequence_numbers : List ℕ) → Stream
 follow s [] = s
 follow s (sequence ∷ rest) = follow (next s sequence) rest
 

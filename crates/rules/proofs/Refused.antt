@@ -14,7 +14,7 @@ use Rattle.message.specs.declared.bodies.Fields.TheVariants.{SupportedProfiles, 
 use Rattle.rules.specs.Call as Call
 use Rattle.rules.specs.Layout.{up, row_of, endpoint_of, down_block, up_block}
 use Rattle.rules.specs.Verdict.{Verdict, allowed, refusal, after}
-use Rattle.rules.specs.Answer.{Answer, refused, wrote, placed, ended, found, keys_stored, delivery, removed, page, byAnswer, answered}
+use Rattle.rules.specs.Answer.{Answer, refused, wrote, placed, ended, found, keys_stored, delivery, removed, page, by_answer, answered}
 use Rattle.rules.specs.Refusals.{wrong_width, no_room, no_room_for_page, not_dtls, too_long, start_message, receiving}
 use Rattle.rules.specs.Table as Table
 use Rattle.rules.specs.Table.{answer, step, knows, serves, has_room, without, packet_message}
@@ -23,7 +23,7 @@ use Rattle.rules.proofs.VerdictLaws.{Avoids, avoids, keys_avoid}
 
 -- the block after a call, by its answer: of a refusal and of "more needed" it is settled
 abbrev leaves : Answer → (old new : List ℕ) → List ℕ
-leaves a old new = byAnswer (λ number taken. cond (eqb number 2) down_block old) old (λ place. new) (λ endpoint dtls taken. new) (λ entries. new) (λ taken. new) a
+leaves a old new = by_answer (λ number taken. cond (eqb number 2) down_block old) old (λ place. new) (λ endpoint dtls taken. new) (λ entries. new) (λ taken. new) a
 
 module _ (s : List ℕ) where
   by_verdict : (v : Verdict) → Avoids 2 v → (taken : ℕ) (a : Answer) (new : List ℕ) → leaves a s new ≡ new

@@ -13,7 +13,7 @@ use Rattle.status.specs.Places as Places
 use Rattle.rules.specs.Limits.{places}
 use Rattle.rules.specs.Call.{write_page}
 use Rattle.rules.specs.Verdict.{Verdict, allowed, refusal}
-use Rattle.rules.specs.Answer.{Answer, opened, keyed, page, byAnswer, answered}
+use Rattle.rules.specs.Answer.{Answer, opened, keyed, page, by_answer, answered}
 use Rattle.rules.specs.Layout.{up, rows, live, endpoint_of, identifier_of, keys_of, state_at}
 use Rattle.rules.specs.Table.{association_of, shown_in, shown, page_entries, page_verdict, page_answer, answer}
 use Rattle.rules.specs.View.{in_row, view}
@@ -54,5 +54,5 @@ unfolding answer page_answer
 page_is s room entries = go (page_verdict s room)
   where
     go : (v : Verdict) → answered v 0 (page (page_entries s)) ≡ page entries → page_entries s ≡ entries
-    go allowed e = ap (λ (a : Answer). byAnswer (λ number taken. []) [] (λ place. []) (λ endpoint dtls taken. []) (λ entries. entries) (λ taken. []) a) e
-    go (refusal number) e = absurd (true≢false (ap (λ (a : Answer). byAnswer (λ number taken. true) false (λ place. false) (λ endpoint dtls taken. false) (λ entries. false) (λ taken. false) a) e))
+    go allowed e = ap (λ (a : Answer). by_answer (λ number taken. []) [] (λ place. []) (λ endpoint dtls taken. []) (λ entries. entries) (λ taken. []) a) e
+    go (refusal number) e = absurd (true≢false (ap (λ (a : Answer). by_answer (λ number taken. true) false (λ place. false) (λ endpoint dtls taken. false) (λ entries. false) (λ taken. false) a) e))

@@ -29,24 +29,24 @@ pub data Answer : Type 0 where
   page : (entries : List Entry) → Answer
 
 -- what is so of a refusal, of "more needed", of a place, of a delivery and of a page, and what of any other answer, by the octets taken, 0 where there are none
-abbrev pub byAnswer {ℓ} : {X : Type ℓ}
-    → (ofRefused : (number taken : ℕ) → X) (ofMoreNeeded : X) (ofPlaced : (place : ℕ) → X) (ofDelivered : (endpoint : ℕ) (dtls : Bounds) (taken : ℕ) → X) (ofPage : (entries : List Entry) → X) (ofOther : (taken : ℕ) → X)
+abbrev pub by_answer {ℓ} : {X : Type ℓ}
+    → (of_refused : (number taken : ℕ) → X) (of_more_needed : X) (of_placed : (place : ℕ) → X) (of_delivered : (endpoint : ℕ) (dtls : Bounds) (taken : ℕ) → X) (of_page : (entries : List Entry) → X) (of_other : (taken : ℕ) → X)
     → Answer → X
-byAnswer r m p d g o (refused number taken) = r number taken
-byAnswer r m p d g o more_needed = m
-byAnswer r m p d g o (wrote octets) = o 0
-byAnswer r m p d g o (placed place) = p place
-byAnswer r m p d g o ended = o 0
-byAnswer r m p d g o (found a) = o 0
-byAnswer r m p d g o (keys_stored endpoint taken) = o taken
-byAnswer r m p d g o (delivery endpoint dtls taken) = d endpoint dtls taken
-byAnswer r m p d g o (removed endpoint taken) = o taken
-byAnswer r m p d g o (version number taken) = o taken
-byAnswer r m p d g o (page entries) = g entries
+by_answer r m p d g o (refused number taken) = r number taken
+by_answer r m p d g o more_needed = m
+by_answer r m p d g o (wrote octets) = o 0
+by_answer r m p d g o (placed place) = p place
+by_answer r m p d g o ended = o 0
+by_answer r m p d g o (found a) = o 0
+by_answer r m p d g o (keys_stored endpoint taken) = o taken
+by_answer r m p d g o (delivery endpoint dtls taken) = d endpoint dtls taken
+by_answer r m p d g o (removed endpoint taken) = o taken
+by_answer r m p d g o (version number taken) = o taken
+by_answer r m p d g o (page entries) = g entries
 
 -- what is so of a delivery, and what of all else
-abbrev pub ofDelivery {ℓ} : {X : Type ℓ} → Answer → ((endpoint : ℕ) (dtls : Bounds) (taken : ℕ) → X) → X → X
-ofDelivery a x y = byAnswer (λ number taken. y) y (λ place. y) x (λ entries. y) (λ taken. y) a
+abbrev pub of_delivery {ℓ} : {X : Type ℓ} → Answer → ((endpoint : ℕ) (dtls : Bounds) (taken : ℕ) → X) → X → X
+of_delivery a x y = by_answer (λ number taken. y) y (λ place. y) x (λ entries. y) (λ taken. y) a
 
 -- an answer where the call is allowed, or its refusal
 abbrev pub answered : Verdict → (taken : ℕ) → Answer → Answer

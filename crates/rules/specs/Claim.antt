@@ -12,7 +12,7 @@ use Rattle.rules.specs.Search.{keep, Distinct}
 use Rattle.rules.specs.Tunnel.{is_up}
 use Rattle.rules.specs.Call as Call
 use Rattle.rules.specs.Answer as Answer
-use Rattle.rules.specs.Answer.{Answer, Association, refused, more_needed, placed, delivery, page, byAnswer, ofDelivery}
+use Rattle.rules.specs.Answer.{Answer, Association, refused, more_needed, placed, delivery, page, by_answer, of_delivery}
 use Rattle.rules.specs.Layout.{down_block}
 use Rattle.rules.specs.Table.{run, answer, answers, step}
 use Rattle.rules.specs.View.{AtPlace, View, view, is_for, identifier_in, endpoint_in}
@@ -48,7 +48,7 @@ held_on (keyed endpoint k) = keyed endpoint k ∷ []
 
 -- an answer, except for an opening's place and a page's entries, of which `openings` and `pages` below speak
 abbrev pub except_place : Answer → Answer
-except_place a = byAnswer refused more_needed (λ place. placed 0) delivery (λ entries. page []) (λ taken. a) a
+except_place a = by_answer refused more_needed (λ place. placed 0) delivery (λ entries. page []) (λ taken. a) a
 
 -- what a call hands out: DTLS octets with an endpoint, or nothing
 pub data Handed : Type 0 where
@@ -57,7 +57,7 @@ pub data Handed : Type 0 where
 
 -- by its answer, of the octets that were lent
 abbrev pub handed_by : List ℕ → Answer → Handed
-handed_by octets a = ofDelivery a (λ endpoint dtls taken. handed endpoint (part_in octets dtls)) nothing
+handed_by octets a = of_delivery a (λ endpoint dtls taken. handed endpoint (part_in octets dtls)) nothing
 
 unfoldable pub handout : List ℕ → Call.Call → Handed
 handout s (Call.start list room) = nothing

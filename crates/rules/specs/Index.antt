@@ -60,16 +60,16 @@ withdrawn s from to q = over (over s from (part s (from + length q) to)) (to - l
 unfoldable pub inserted_at : List ℕ → (at endpoint place : ℕ) → List ℕ
 inserted_at s at endpoint place =
     let n = count_of s in
-    let withPlace = entered s (index_places_at + at) (index_places_at + n) (place ∷ []) in
-    let withBoth = entered withPlace (index_endpoints_at + 4 * at) (index_endpoints_at + 4 * n) (low_first32 endpoint) in
-    over withBoth index_at (octets_of_16 (n + 1))
+    let with_place = entered s (index_places_at + at) (index_places_at + n) (place ∷ []) in
+    let with_both = entered with_place (index_endpoints_at + 4 * at) (index_endpoints_at + 4 * n) (low_first32 endpoint) in
+    over with_both index_at (octets_of_16 (n + 1))
 
 unfoldable pub removed_at : List ℕ → (at : ℕ) → List ℕ
 removed_at s at =
     let n = count_of s in
     let without_place = withdrawn s (index_places_at + at) (index_places_at + n) (0 ∷ []) in
-    let withoutBoth = withdrawn without_place (index_endpoints_at + 4 * at) (index_endpoints_at + 4 * n) (0 ∷ 0 ∷ 0 ∷ 0 ∷ []) in
-    over withoutBoth index_at (octets_of_16 (n - 1))
+    let without_both = withdrawn without_place (index_endpoints_at + 4 * at) (index_endpoints_at + 4 * n) (0 ∷ 0 ∷ 0 ∷ 0 ∷ []) in
+    over without_both index_at (octets_of_16 (n - 1))
 
 -- an endpoint put in where it is missing, unless the index is full; and taken out where it stands
 abbrev pub entering : List ℕ → (endpoint place : ℕ) → Spot → List ℕ

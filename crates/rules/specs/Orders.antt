@@ -3,8 +3,8 @@ use Rattle.std.specs.Prelude.{Bool}
 use Rattle.rules.specs.Verdict.{Verdict, allowed, refuse}
 
 -- Start: 17, 16, 13
-abbrev pub start_order : (up badList no_room : Bool) → Verdict
-start_order up badList no_room = refuse up 17 (refuse badList 16 (refuse no_room 13 allowed))
+abbrev pub start_order : (up bad_list no_room : Bool) → Verdict
+start_order up bad_list no_room = refuse up 17 (refuse bad_list 16 (refuse no_room 13 allowed))
 
 -- Open: 1, 20, 11, 12, 10
 abbrev pub open_order : (down wrong_width known served full : Bool) → Verdict
@@ -17,9 +17,9 @@ packet_order down unserved not_dtls too_long no_room =
     refuse down 1 (refuse unserved 6 (refuse not_dtls 14 (refuse too_long 15 (refuse no_room 13 allowed))))
 
 -- Tunnel octets, type 3: 6, 7, 8, 9
-abbrev pub keys_order : (unknown notInList keysUnfit mkiOrSaltsUnfit : Bool) → Verdict
-keys_order unknown notInList keysUnfit mkiOrSaltsUnfit =
-    refuse unknown 6 (refuse notInList 7 (refuse keysUnfit 8 (refuse mkiOrSaltsUnfit 9 allowed)))
+abbrev pub keys_order : (unknown not_in_list keys_unfit mki_or_salts_unfit : Bool) → Verdict
+keys_order unknown not_in_list keys_unfit mki_or_salts_unfit =
+    refuse unknown 6 (refuse not_in_list 7 (refuse keys_unfit 8 (refuse mki_or_salts_unfit 9 allowed)))
 
 -- Close: 1, 20, 6, 13
 abbrev pub close_order : (down wrong_width unknown no_room : Bool) → Verdict

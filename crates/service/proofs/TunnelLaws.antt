@@ -17,7 +17,7 @@ use Rattle.message.specs.Parts.{identifier_bounds, dtls_bounds}
 use Rattle.message.specs.Read as Read
 use Rattle.message.specs.declared.bodies.Fields.{Fields}
 use Rattle.message.specs.declared.bodies.Fields.TheVariants.{SupportedProfiles, UnsupportedVersion, MediaKeys, TunneledDtls, EndpointDisconnect}
-use Rattle.rules.specs.Answer.{Answer, refused, keys_stored, delivery, removed, ofDelivery, answered}
+use Rattle.rules.specs.Answer.{Answer, refused, keys_stored, delivery, removed, of_delivery, answered}
 use Rattle.rules.specs.Layout.{up}
 use Rattle.distributor.specs.Outcomes.{received_of}
 use Rattle.rules.specs.Refusals.{receiving}
@@ -29,7 +29,7 @@ use Rattle.service.specs.Reply.{Replies, frame_of}
 
 -- where Tunnel octets answers a delivery, its octets stand behind the identifier and the length
 abbrev OfTunnel : Answer → Type 0
-OfTunnel a = ofDelivery a (λ endpoint dtls taken. dtls.start ≡ header + width + 2) (Unit {0})
+OfTunnel a = of_delivery a (λ endpoint dtls taken. dtls.start ≡ header + width + 2) (Unit {0})
 
 of_verdict : (w : Verdict) (endpoint taken : ℕ) → OfTunnel (answered w taken (keys_stored endpoint taken))
 of_verdict allowed endpoint taken = tt

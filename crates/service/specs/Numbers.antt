@@ -1,12 +1,12 @@
 -- The numbers that an answer frame carries in two octets: places, and octets taken.
 use Rattle.std.specs.Prelude.{ℕ, ◌<◌, List}
-use Rattle.rules.specs.Answer.{Answer, byAnswer}
+use Rattle.rules.specs.Answer.{Answer, by_answer}
 use Rattle.rules.specs.Table.{answer}
 use Rattle.service.specs.Request.{Request, call, no_call}
 
 -- the number of an answer; 0 where it has none
 abbrev pub number_in : Answer → ℕ
-number_in a = byAnswer (λ number taken. taken) 0 (λ place. place) (λ endpoint dtls taken. taken) (λ entries. 0) (λ taken. taken) a
+number_in a = by_answer (λ number taken. taken) 0 (λ place. place) (λ endpoint dtls taken. taken) (λ entries. 0) (λ taken. taken) a
 
 -- what two octets can say
 abbrev pub numbers16 : ℕ

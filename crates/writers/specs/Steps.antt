@@ -9,11 +9,11 @@ abbrev pub Puts : (before : List ℕ) (at : ℕ) (piece : List ℕ) (r : ℕ) (a
 Puts before at piece r after = at + length piece ≤ length before → (r ≡ put_end before at piece) × (after ≡ put before at piece)
 
 -- the earliest refusal, by whether the identifier and the fields fit and by the body's length, or the message's length
-abbrev pub answer_by : (identifier fields : Bool) (bodyLength room : ℕ) → Answer
-answer_by identifier fields bodyLength room =
+abbrev pub answer_by : (identifier fields : Bool) (body_length room : ℕ) → Answer
+answer_by identifier fields body_length room =
     cond (not identifier) (refused 20)
     (cond (not fields) (refused 5)
-    (fitting bodyLength (header + bodyLength) room))
+    (fitting body_length (header + body_length) room))
 
 -- the octets written, 0 where a message is refused
 abbrev pub count_of : Answer → ℕ
