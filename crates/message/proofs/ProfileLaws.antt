@@ -2,6 +2,7 @@
 use Prim.Native.Nat.{ℕ, suc, ◌+◌, ◌≤◌, ◌<◌}
 use mathlib.Core.Path.{◌≡◌, refl, ◌∙◌}
 use mathlib.Core.Bool.{Bool, true, false, cond, not, ◌&&◌, ◌||◌}
+use Rattle.std.specs.Prelude.{Some, None, is_some, unwrap_or}
 use lib.Dec.{eqb}
 use mathlib.Core.List.{List, [], ◌∷◌}
 use native.Mathlib.Omega.{arith}
@@ -10,7 +11,7 @@ use lib.ListN.{length, drop, length-drop}
 use lib.Seq.{drop-cons}
 use borrow.Author.Tests.{eq-eqb, ne_eqb}
 use Rattle.octets.specs.Number.{number16_at}
-use Rattle.message.specs.Profiles.{entries, in_list, sound, is_profile, key_length}
+use Rattle.message.specs.Profiles.{entries, in_list, sound, is_profile, key_length, found_key_length}
 
 -- a profile is a number whose keys have a length
 table_says : (a b : Bool) → (a || (b || false)) ≡ not (eqb (cond a 16 (cond b 32 0)) 0)
@@ -18,9 +19,27 @@ table_says true b = refl
 table_says false true = refl
 table_says false false = refl
 
+length_says : (a b : Bool) (m n : ℕ) → unwrap_or (cond (a || (b || false)) (Some (cond a m (cond b n 0))) None) 0 ≡ cond a m (cond b n 0)
+length_says true b m n = refl
+length_says false true m n = refl
+length_says false false m n = refl
+
+some_says : (a : Bool) (n : ℕ) → is_some (cond a (Some n) None) ≡ a
+some_says true n = refl
+some_says false n = refl
+
 pub has_length : (p : ℕ) → is_profile p ≡ not (eqb (key_length p) 0)
 unfolding is_profile key_length
 has_length p = table_says (eqb p 0x0009) (eqb p 0x000A)
+
+-- the length that is found, or none
+pub found_or_none : (p : ℕ) → unwrap_or (found_key_length p) 0 ≡ key_length p
+unfolding found_key_length is_profile key_length
+found_or_none p = length_says (eqb p 0x0009) (eqb p 0x000A) 16 32
+
+pub is_found : (p : ℕ) → is_some (found_key_length p) ≡ is_profile p
+unfolding found_key_length
+is_found p = some_says (is_profile p) (key_length p)
 
 pub entries_next : (l : List ℕ) (at : ℕ) → at + 1 < length l → entries (drop at l) ≡ number16_at l at ∷ entries (drop (at + 2) l)
 unfolding entries number16_at

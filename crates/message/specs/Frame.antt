@@ -1,10 +1,12 @@
 -- What the front of lent octets holds before a body is looked at: document 01, "Reading the front of a lent stretch", steps 1 to 3.
-use Rattle.std.specs.Prelude.{ℕ, ◌+◌, cond, List, length, ltb, eqb}
+use Rattle.std.specs.Prelude.{ℕ, ◌+◌, cond, List, length, ltb, eqb, Option, Some, None, Result, Ok, Err}
 use Rattle.octets.specs.Number.{octet_at, number16_at}
+use Rattle.octets.specs.Refusal.{number_of}
 use Rattle.message.specs.Limits.{body_limit, header}
 use Rattle.message.specs.declared.framing.Kind.{Kind}
 use Rattle.message.specs.declared.framing.Kind.TheVariants.{SupportedProfiles, UnsupportedVersion, MediaKeys, TunneledDtls, EndpointDisconnect, Unlisted}
 use Rattle.message.specs.declared.framing.Frame.{Frame}
+use Rattle.message.specs.declared.reading.Refused.{Refused}
 
 -- the type octet: RFC 9185, section 6.1; 0 and 6 to 255 are not listed
 unfoldable pub kind_of : ℕ → Kind
@@ -44,10 +46,9 @@ plain_frame s =
 unfoldable pub frame : List ℕ → Framing
 frame s = cond (eqb (octet_at s 0) 2) (version_frame s) (plain_frame s)
 
--- the number and the values that each case of the enum stands for
-abbrev pub framing_of : Frame → Framing
-framing_of Frame.MoreNeeded = more_needed
-framing_of Frame.EmptyVersion = refused 5 header
-framing_of (Frame.Version v) = version v
-framing_of Frame.Oversize = refused 2 0
-framing_of (Frame.Whole kind body_length) = whole kind body_length
+-- the number and the values that each case of a result stands for
+abbrev pub framing_of : Result (Option Frame) Refused → Framing
+framing_of (Ok None) = more_needed
+framing_of (Ok (Some (Frame.Version v))) = version v
+framing_of (Ok (Some (Frame.Whole kind body_length))) = whole kind body_length
+framing_of (Err r) = refused (number_of r.refusal) r.taken

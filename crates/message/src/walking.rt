@@ -12,6 +12,7 @@ pub struct Walk {
 pub const BEGIN: Walk = Walk { good: true, at: 0 };
 
 // Past n octets where all was good, these are and they end within the body.
+#[tactic(auto, unfolding(crate::specs::Walk::past))]
 fn past(body_length: usize, good: bool, n: usize, w: Walk) -> Walk
     ensures { result ≡ Spec.past body_length good n w }
 {
@@ -30,6 +31,7 @@ fn past(body_length: usize, good: bool, n: usize, w: Walk) -> Walk
 }
 
 // A field of n octets.
+#[tactic(auto, unfolding(crate::specs::Walk::fixed))]
 pub fn fixed(body: &[u8], n: usize, w: Walk) -> Walk
     ensures { result ≡ Spec.fixed body.now n w }
 {
@@ -37,6 +39,7 @@ pub fn fixed(body: &[u8], n: usize, w: Walk) -> Walk
 }
 
 // A profile list behind its two length octets.
+#[tactic(auto, unfolding(crate::specs::Walk::profile_list))]
 pub fn profile_list(body: &[u8], w: Walk) -> Walk
     ensures { result ≡ Spec.profile_list body.now w }
 {
@@ -45,6 +48,7 @@ pub fn profile_list(body: &[u8], w: Walk) -> Walk
 }
 
 // Whether every field was good and the last one ends the body.
+#[tactic(auto, unfolding(crate::specs::Walk::complete))]
 pub fn complete(body: &[u8], w: Walk) -> bool
     ensures { result ≡ Spec.complete body.now w }
 {
