@@ -1,6 +1,5 @@
 // The SRTP protection profiles that we speak, and the rules that tables of associations share.
-ghost use Rattle.std.specs.Prelude.{◌≡◌, not, ◌&&◌, ◌+◌, drop};
-ghost use Rattle.octets.specs.Number.{number16_at};
+ghost use Rattle.std.specs.Prelude.{◌≡◌};
 ghost use Rattle.message.specs.Profiles as Spec;
 
 use crate::bodies::KeyLengths;
@@ -29,34 +28,22 @@ pub fn is_profile(profile: u16) -> bool
 pub fn in_list(profile: u16, list: &[u8]) -> bool
     ensures { result ≡ Spec.in_list profile list.now }
 {
-    let mut at = 0;
-    while at + 1 < list.len() {
-        if octets::number16(list, at) == profile {
-            return true;
-        }
-        at += 2;
-    }
-    false
+    let (entries, _) = list.as_chunks::<2>();
+    entries.iter().any(|entry| u16::from_be_bytes(*entry) == profile)
 }
 
-// Whether the entry at an offset is a profile that does not come again.
-fn sound_entry(list: &[u8], at: usize, next: usize) -> bool
-    ensures { result ≡ Spec.is_profile (number16_at list.now at) && not (Spec.in_list (number16_at list.now at) (drop next list.now)) }
-{
-    let profile = octets::number16(list, at);
-    is_profile(profile) & !in_list(profile, octets::part(list, next, list.len()))
-}
-
+// Whether every entry is a profile that does not come again.
+#[tactic(auto, using(crate::proofs::ProfileLaws::sound_first, crate::proofs::ProfileLaws::sound_end))]
 fn sound(list: &[u8]) -> bool
     ensures { result ≡ Spec.sound (Spec.entries list.now) }
 {
-    let mut at = 0;
-    while at + 1 < list.len() {
-        let next = at + 2;
-        if !sound_entry(list, at, next) {
+    let mut rest = list;
+    while let Some((entry, tail)) = rest.split_first_chunk::<2>() {
+        let profile = u16::from_be_bytes(*entry);
+        if !is_profile(profile) | in_list(profile, tail) {
             return false;
         }
-        at = next;
+        rest = tail;
     }
     true
 }
