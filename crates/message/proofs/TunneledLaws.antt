@@ -3,17 +3,17 @@ use Prim.Native.Nat.{ℕ, ◌+◌, ◌≤◌}
 use mathlib.Core.Path.{◌≡◌, refl, sym, ap, subst, ◌∙◌}
 use mathlib.Core.List.{List}
 use native.Mathlib.Omega.{arith}
-use Rattle.std.specs.Prelude.{Option, Some, None}
+use Rattle.std.specs.Prelude.{Option, Some, None, unwrap_or}
 use lib.ListN.{length}
 use Rattle.octets.specs.Number.{octet_at, number16_at}
 use Rattle.octets.proofs.InPart.{number_in}
 use Rattle.message.specs.Limits.{body_limit, header, width}
 use Rattle.message.specs.Frame as Frame
 use Rattle.message.specs.Body as Body
-use Rattle.message.specs.Read.{Answer, accepted, body_answer, frame_answer, reading}
-use Rattle.message.specs.Parts.{dtls_found}
+use Rattle.message.specs.Read.{Answer, more_needed, refused, accepted, body_answer, frame_answer, reading}
+use Rattle.message.specs.Parts.{dtls_in, dtls_found}
 use Rattle.message.specs.declared.framing.Kind.{Kind}
-use Rattle.message.specs.declared.bodies.Fields.TheVariants.{TunneledDtls}
+use Rattle.message.specs.declared.bodies.Fields.TheVariants.{SupportedProfiles, UnsupportedVersion, MediaKeys, TunneledDtls, EndpointDisconnect}
 use Rattle.message.proofs.FrameSays.{Whole, whole_type, whole_frame, FrameSays, frame_says}
 use Rattle.message.proofs.WalkEnds.{dtls_whole}
 use Rattle.message.proofs.Encoded.{body_of, body_length}
@@ -50,6 +50,15 @@ module _ (s : List ℕ) (n : ℕ) (t : Tunneled s n) where
   tunneled_read = ap (frame_answer s) tunneled_frame ∙ ap (body_answer (header + (width + 2 + n))) tunneled_content
 
 -- ---- and where reading finds one
+
+many_found : (a : Answer) → unwrap_or (dtls_found a) 0 ≡ dtls_in a
+many_found more_needed = refl
+many_found (refused number taken) = refl
+many_found (accepted (SupportedProfiles version n) taken) = refl
+many_found (accepted (UnsupportedVersion version) taken) = refl
+many_found (accepted (MediaKeys profile k) taken) = refl
+many_found (accepted (TunneledDtls n) taken) = refl
+many_found (accepted EndpointDisconnect taken) = refl
 
 module _ (s : List ℕ) where
   abbrev FoundSays : Option ℕ → Type 0
@@ -96,6 +105,10 @@ module _ (s : List ℕ) where
   reading_says : DtlsSays (reading s)
   unfolding reading
   reading_says = by_frame (Frame.frame s) (frame_says s)
+
+  -- how many octets are found, 0 where none are
+  pub found_many : unwrap_or (dtls_found (reading s)) 0 ≡ dtls_in (reading s)
+  found_many = many_found (reading s)
 
   pub tunneled_told : (n : ℕ) → Some n ≡ dtls_found (reading s) → Tunneled s n
   tunneled_told n e = subst FoundSays (sym e) reading_says

@@ -18,6 +18,15 @@ kind_of type =
     (cond (eqb type 5) EndpointDisconnect
     Unlisted))))
 
+-- the type octet of each kind, and one that is not listed
+abbrev pub octet_of : Kind → ℕ
+octet_of Kind.Unlisted = 0
+octet_of Kind.SupportedProfiles = 1
+octet_of Kind.UnsupportedVersion = 2
+octet_of Kind.MediaKeys = 3
+octet_of Kind.TunneledDtls = 4
+octet_of Kind.EndpointDisconnect = 5
+
 -- more needed; a refusal by its number with the octets taken; an accepted version, with every lent octet taken;
 -- or a whole message, by its type and the length of its body
 pub data Framing : Type 0 where

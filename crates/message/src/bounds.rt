@@ -128,21 +128,15 @@ impl Message {
     {
         let mut p = identified(self.taken);
         match self.fields {
-            Fields::SupportedProfiles {
-                version: _,
-                list_length,
-            } => {
+            Fields::SupportedProfiles { list_length, .. } => {
                 p.identifier = NOWHERE;
                 p.profile_list = behind(BEFORE_LIST, list_length);
             }
-            Fields::UnsupportedVersion { version: _ } => {
+            Fields::UnsupportedVersion { .. } => {
                 p.identifier = NOWHERE;
                 p.body = behind(HEADER, 1);
             }
-            Fields::MediaKeys {
-                profile: _,
-                lengths,
-            } => p.keys = lengths.bounds(),
+            Fields::MediaKeys { lengths, .. } => p.keys = lengths.bounds(),
             Fields::TunneledDtls { dtls_length } => p.dtls = dtls_bounds(dtls_length),
             Fields::EndpointDisconnect => {}
         }
@@ -156,8 +150,7 @@ pub fn bounds_of(read: Result<Option<Message>, Refused>) -> FieldBounds
 {
     match read {
         Ok(Some(message)) => message.bounds(),
-        Ok(None) => NO_FIELDS,
-        Err(_) => NO_FIELDS,
+        Ok(None) | Err(_) => NO_FIELDS,
     }
 }
 

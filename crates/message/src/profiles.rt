@@ -29,7 +29,9 @@ pub fn in_list(profile: u16, list: &[u8]) -> bool
     ensures { result ≡ Spec.in_list profile list.now }
 {
     let (entries, _) = list.as_chunks::<2>();
-    entries.iter().any(|entry| u16::from_be_bytes(*entry) == profile)
+    entries
+        .iter()
+        .any(|entry| u16::from_be_bytes(*entry) == profile)
 }
 
 // Whether every entry is a profile that does not come again.
