@@ -27,6 +27,15 @@ pub enum Frame {
     Whole { kind: Kind, body_length: u16 },
 }
 
+// The type octet of a kind, and 0 of what is not listed.
+impl From<Kind> for u8 {
+    ghost from_gives = { λ kind message_type. message_type ≡ Spec.octet_of kind };
+
+    fn from(kind: Kind) -> u8 {
+        kind as u8
+    }
+}
+
 // An UnsupportedVersion of length 0: its header is taken.
 const EMPTY_VERSION: Refused = Refused {
     refusal: Refusal::BadBody,

@@ -1,6 +1,6 @@
 -- The answer by the lengths of a message's fields is what writing it answers.
 use Prim.Native.Nat.{ℕ, ◌+◌}
-use mathlib.Core.Path.{◌≡◌, refl, ◌∙◌}
+use mathlib.Core.Path.{◌≡◌, refl}
 use mathlib.Core.Bool.{Bool, true, false, cond, not}
 use mathlib.Core.List.{List}
 use native.Mathlib.Omega.{arith}
@@ -9,7 +9,7 @@ use lib.Dec.{eqb}
 use lib.ListN.{length, length-append}
 use Rattle.message.specs.Limits.{width}
 use Rattle.message.specs.Message.{Message, supported_profiles, unsupported_version, media_keys, tunneled_dtls, endpoint_disconnect, encode, encode_body}
-use Rattle.message.specs.Write.{Answer, refused, fitting, identifier_fits, fields_fit, writing}
+use Rattle.message.specs.Write.{refused, fitting, identifier_fits, fields_fit, writing}
 use Rattle.message.proofs.AnswerLaws.{encode_length}
 use Rattle.writers.specs.Steps.{answer_by, keys_answer}
 
@@ -25,29 +25,27 @@ module _ (m : Message) (room : ℕ) where
   unfolding writing
   answer_is n h = by_identifier (identifier_fits m) n h
 
-module _ {v : Answer} (room : ℕ) where
+module _ (room : ℕ) where
   pub profiles_answer : (version : ℕ) (l : List ℕ)
-      → v ≡ answer_by true (fields_fit (supported_profiles version l)) (3 + length l) room → v ≡ writing (supported_profiles version l) room
-  profiles_answer version l e = e ∙ answer_is (supported_profiles version l) room (3 + length l) (λ _. omega arith)
+      → answer_by true (fields_fit (supported_profiles version l)) (3 + length l) room ≡ writing (supported_profiles version l) room
+  profiles_answer version l = answer_is (supported_profiles version l) room (3 + length l) (λ _. omega arith)
 
-  pub version_answer : (version : ℕ) → v ≡ answer_by true true 1 room → v ≡ writing (unsupported_version version) room
-  version_answer version e = e ∙ answer_is (unsupported_version version) room 1 (λ _. refl)
+  pub version_answer : (version : ℕ) → answer_by true true 1 room ≡ writing (unsupported_version version) room
+  version_answer version = answer_is (unsupported_version version) room 1 (λ _. refl)
 
-  pub dtls_answer : (i d : List ℕ) → v ≡ answer_by (eqb (length i) width) (fields_fit (tunneled_dtls i d)) (width + 2 + length d) room
-      → v ≡ writing (tunneled_dtls i d) room
-  dtls_answer i d e =
-      e
-      ∙ answer_is (tunneled_dtls i d) room (width + 2 + length d)
+  pub dtls_answer : (i d : List ℕ)
+      → answer_by (eqb (length i) width) (fields_fit (tunneled_dtls i d)) (width + 2 + length d) room ≡ writing (tunneled_dtls i d) room
+  dtls_answer i d =
+      answer_is (tunneled_dtls i d) room (width + 2 + length d)
       (λ h. let w = eqb-true (length i) width h in simp length-append (omega arith))
 
-  pub disconnect_answer : (i : List ℕ) → v ≡ answer_by (eqb (length i) width) true width room → v ≡ writing (endpoint_disconnect i) room
-  disconnect_answer i e = e ∙ answer_is (endpoint_disconnect i) room width (eqb-true (length i) width)
+  pub disconnect_answer : (i : List ℕ) → answer_by (eqb (length i) width) true width room ≡ writing (endpoint_disconnect i) room
+  disconnect_answer i = answer_is (endpoint_disconnect i) room width (eqb-true (length i) width)
 
 module _ (i : List ℕ) (p : ℕ) (m ck sk cs ss : List ℕ) (room : ℕ) where
   keys_length_lem : length i ≡ width
       → length (encode_body (media_keys i p m ck sk cs ss)) ≡ width + 7 + length m + length ck + length sk + length cs + length ss
   keys_length_lem h = simp length-append (omega arith)
 
-  pub keys_answer_lem : {v : Answer} → v ≡ keys_answer (length i) (length m) (length ck) (length sk) (length cs) (length ss) room
-      → v ≡ writing (media_keys i p m ck sk cs ss) room
-  keys_answer_lem e = e ∙ answer_is (media_keys i p m ck sk cs ss) room _ (λ h. keys_length_lem (eqb-true _ _ h))
+  pub keys_answer_lem : keys_answer (length i) (length m) (length ck) (length sk) (length cs) (length ss) room ≡ writing (media_keys i p m ck sk cs ss) room
+  keys_answer_lem = answer_is (media_keys i p m ck sk cs ss) room _ (λ h. keys_length_lem (eqb-true _ _ h))

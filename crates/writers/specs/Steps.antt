@@ -2,7 +2,7 @@
 use Rattle.std.specs.Prelude.{ℕ, ◌+◌, ◌≤◌, ◌≡◌, Bool, cond, not, List, length, eqb}
 use Rattle.octets.specs.Write.{put, put_end}
 use Rattle.message.specs.Limits.{width, header}
-use Rattle.message.specs.Write.{Answer, refused, written, fitting, key_fields_fit}
+use Rattle.message.specs.Write.{Answer, refused, fitting, key_fields_fit}
 
 -- where there is room for a piece it is written, and the answer is the offset behind it
 abbrev pub Puts : (before : List ℕ) (at : ℕ) (piece : List ℕ) (r : ℕ) (after : List ℕ) → Type 0
@@ -14,11 +14,6 @@ answer_by identifier fields body_length room =
     cond (not identifier) (refused 20)
     (cond (not fields) (refused 5)
     (fitting body_length (header + body_length) room))
-
--- the octets written, 0 where a message is refused
-abbrev pub count_of : Answer → ℕ
-count_of (refused number) = 0
-count_of (written count) = count
 
 -- MediaKeys by the lengths of its fields
 abbrev pub keys_answer : (identifier mki client_key server_key client_salt server_salt room : ℕ) → Answer

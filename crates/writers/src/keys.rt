@@ -1,0 +1,40 @@
+// The fields of MediaKeys behind its profile, each of which stands behind one length octet.
+ghost use Rattle.std.specs.Prelude.{◌≡◌, true};
+ghost use Rattle.writers.specs.Keys as Spec;
+
+use message::limits::MOST_8;
+
+#[derive(Clone, Copy)]
+pub struct KeyFields<'a> {
+    pub mki: &'a [u8],
+    pub client_key: &'a [u8],
+    pub server_key: &'a [u8],
+    pub client_salt: &'a [u8],
+    pub server_salt: &'a [u8],
+}
+
+impl KeyFields<'_> {
+    // Whether the length octets can tell them, and only the MKI is empty.
+    pub fn fit(self) -> bool
+        ensures { result ≡ Spec.fit self.entry }
+    {
+        octets::within(0, MOST_8, self.mki.len())
+            & octets::within(1, MOST_8, self.client_key.len())
+            & octets::within(1, MOST_8, self.server_key.len())
+            & octets::within(1, MOST_8, self.client_salt.len())
+            & octets::within(1, MOST_8, self.server_salt.len())
+    }
+
+    // How many octets profile and fields take.
+    #[tactic(auto, using(message::proofs::KeyFields::keys_fit_lem))]
+    pub(crate) fn vectors(self) -> usize
+        requires { Spec.fit self ≡ true }
+        ensures { result ≡ Spec.octets self.entry }
+    {
+        7 + self.mki.len()
+            + self.client_key.len()
+            + self.server_key.len()
+            + self.client_salt.len()
+            + self.server_salt.len()
+    }
+}
