@@ -1,6 +1,6 @@
 -- Laws of lists of numbers, and of the endpoints of a page's entries.
 use Prim.Native.Nat.{ℕ, zero, suc, ◌+◌, ◌*◌, ◌≤◌, ◌<◌}
-use mathlib.Core.Path.{◌≡◌, refl, sym, ap, ap₂, ◌∙◌}
+use mathlib.Core.Path.{◌≡◌, refl, sym, ap, ap₂, subst, ◌∙◌}
 use mathlib.Core.Bool.{Bool, true, false, not, ◌&&◌, ◌||◌}
 use mathlib.Core.List.{List, [], ◌∷◌, ◌++◌, map}
 use native.Mathlib.Omega.{arith}
@@ -10,7 +10,8 @@ use lib.ListN.{length, get_or, take, drop, set, drop_of_length-le}
 use lib.Seq.{take-suc, take-suc-set, drop-cons}
 use Rattle.status.specs.Limits.{count_bits, entry_bits, page_bits}
 use Rattle.status.specs.Numbers.{has, apart}
-use Rattle.status.specs.Entries.{mentions, distinct, endpoint_of, entry_at, entries_at}
+use Rattle.status.specs.Page.{entries_in}
+use Rattle.status.specs.Entries.{rising, mentions, distinct, endpoint_of, entry_at, entries_at}
 use Rattle.status.specs.declared.entry.Entry.{Entry}
 
 -- ---- a number among others
@@ -33,9 +34,9 @@ has_last n x (y ∷ l) = ap (λ (b : Bool). eqb y n || b) (has_last n x l) ∙ o
 pub has_next : (n : ℕ) (l : List ℕ) (i : ℕ) → i < length l → has n (take (i + 1) l) ≡ (has n (take i l) || eqb (get_or l i 0) n)
 has_next n l i h = rw (add-one, take-suc l i 0 h) (has_last n (get_or l i 0) (take i l))
 
-pub has_none : (n : ℕ) (l : List ℕ) → has n (take 0 l) ≡ false
+pub has_none : (n : ℕ) → has n [] ≡ false
 unfolding has
-has_none n l = refl
+has_none n = refl
 
 -- ---- numbers that differ
 
@@ -66,6 +67,14 @@ pub distinct_apart : (es : List Entry) → distinct es ≡ apart (map endpoint_o
 unfolding distinct apart
 distinct_apart [] = refl
 distinct_apart (e ∷ es) = ap₂ (λ (a b : Bool). not a && b) (mentions_has e.endpoint es) (distinct_apart es)
+
+-- of entries whose places rise it is enough to compare the endpoints
+pub rising_apart : (s : List ℕ) (n : ℕ) {m : ℕ} {list : List ℕ} {rises differ : Bool} → rises ≡ rising 0 (entries_in s m)
+    → (rises ≡ true → list ≡ map endpoint_of (entries_in s m)) → rises ≡ true → differ ≡ apart list → m ≡ n
+    → differ ≡ (rising 0 (entries_in s n) && distinct (entries_in s n))
+rising_apart s n {m} {list} {rises} {differ} e stored t d k =
+    subst (λ (i : ℕ). differ ≡ (rising 0 (entries_in s i) && distinct (entries_in s i))) k
+    (rw (sym e ∙ t) (d ∙ ap apart (stored t) ∙ sym (distinct_apart (entries_in s m))))
 
 -- the last of so many entries
 entries_last : (f : ℕ → ℕ) (at n : ℕ) → map endpoint_of (entries_at f at (suc n)) ≡ map endpoint_of (entries_at f at n) ++ ((entry_at f (at + n * entry_bits)).endpoint ∷ [])

@@ -1,15 +1,7 @@
-use Prim.Native.Nat.{◌-◌, ◌*◌}
 use native.Mathlib.Omega.{arith}
-use lib.Pow.{pow_pos}
 use Rattle.octets.specs.Number.{Octets}
-use Rattle.status.proofs.WordLaws.{field_count}
 use Rattle.status.proofs.PageLaws.{laid_tests}
 use Rattle.status.proofs.reading.laid_out.Goals as goal
-
-pub nonzero_rem-result : goal.nonzero_rem-result
-nonzero_rem-result c =
-    let filling = c.octets_for-octets.result * 8 - c.page_bits-bits.result in
-    omega (arith, field_count filling (omega arith), pow_pos filling)
 
 pub returns : goal.returns
 returns c =
