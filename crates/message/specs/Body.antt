@@ -4,11 +4,10 @@ use Rattle.octets.specs.Number.{octet_at, number16_at}
 use Rattle.octets.specs.Refusal.{number_of}
 use Rattle.octets.specs.declared.refusal.Refusal.{Refusal}
 use Rattle.message.specs.Limits.{width}
-use Rattle.message.specs.Walk.{begin, fixed, field8, field16, profile_list, complete}
+use Rattle.message.specs.Walk.{Walk, begin, fixed, field8, field16, profile_list, complete}
 use Rattle.message.specs.declared.framing.Kind.{Kind}
 use Rattle.message.specs.declared.bodies.Fields.{Fields}
 use Rattle.message.specs.declared.bodies.Fields.TheVariants.{SupportedProfiles, UnsupportedVersion, MediaKeys, TunneledDtls, EndpointDisconnect}
-use Rattle.message.specs.declared.walking.Walk.{Walk}
 
 -- a refusal by its number, or the fields: their numbers and lengths, from which their bounds follow (Parts)
 pub data Content : Type 0 where

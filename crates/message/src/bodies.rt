@@ -1,11 +1,11 @@
 // What a body holds, by the message's kind. The body alone is read.
-ghost use Rattle.std.specs.Prelude.{◌≡◌};
+ghost use Rattle.std.specs.Prelude.{◌≡◌, true};
 ghost use Rattle.message.specs.Body as Spec;
+ghost use Rattle.message.specs.Walk as Walk;
 
 use crate::framing::Kind;
 use crate::limits::WIDTH;
 use crate::walking;
-use crate::walking::{BEGIN, Walk};
 use octets::Refusal;
 
 // The length octets of MediaKeys.
@@ -28,27 +28,26 @@ pub enum Fields {
     EndpointDisconnect,
 }
 
-// Fields of which the last ends the body, or refusal 5.
-fn ending(body: &[u8], w: Walk, fields: Fields) -> Result<Fields, Refusal>
-    ensures { Spec.content_of result ≡ Spec.ending body.now w fields }
+// A SupportedProfiles: version 1, then the list.
+#[tactic(auto, using(crate::proofs::WalkEnds::stands_still))]
+fn walk_profiles(body: &[u8]) -> Result<usize, usize>
+    ensures { Walk.walk_of result ≡ Walk.profile_list body.now (Walk.fixed body.now 1 Walk.begin) }
 {
-    if !walking::complete(body, w) {
-        return Err(Refusal::BadBody);
-    }
-    Ok(fields)
+    let list_at = walking::fixed(body, 1, 0)?;
+    walking::profile_list(body, list_at)
 }
 
-#[tactic(auto, unfolding(crate::specs::Body::supported_profiles))]
+#[tactic(auto, using(crate::proofs::WalkEnds::profiles_whole, crate::proofs::WalkEnds::profiles_bad))]
 fn supported_profiles(body: &[u8]) -> Result<Fields, Refusal>
     ensures { Spec.content_of result ≡ Spec.supported_profiles body.now }
 {
-    let version = walking::fixed(body, 1, BEGIN);
-    let list = walking::profile_list(body, version);
-    let fields = Fields::SupportedProfiles {
+    if walk_profiles(body) != Ok(body.len()) {
+        return Err(Refusal::BadBody);
+    }
+    Ok(Fields::SupportedProfiles {
         version: octets::octet(body, 0),
-        list_length: octets::number16(body, version.at),
-    };
-    ending(body, list, fields)
+        list_length: octets::number16(body, 1),
+    })
 }
 
 #[tactic(auto, unfolding(crate::specs::Body::unsupported_version))]
