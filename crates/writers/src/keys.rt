@@ -15,7 +15,7 @@ pub struct KeyFields<'a> {
 
 impl KeyFields<'_> {
     // Whether the length octets can tell them, and only the MKI is empty.
-    pub fn fit(self) -> bool
+    pub(crate) fn fit(self) -> bool
         ensures { result ≡ Spec.fit self.entry }
     {
         octets::within(0, MOST_8, self.mki.len())

@@ -31,15 +31,6 @@ fn put_vector8(field: &[u8], at: usize, out: &mut [u8]) -> usize
     octets::put_octets(out, next, field)
 }
 
-// Two such fields.
-fn put_two(first: &[u8], second: &[u8], at: usize, out: &mut [u8]) -> usize
-    requires { (length first.now ≤ most8) × (length second.now ≤ most8) }
-    ensures { Puts out.old at (M.vector8 first.now ++ M.vector8 second.now) result out.new }
-{
-    let next = put_vector8(first, at, out);
-    put_vector8(second, next, out)
-}
-
 // A field behind its two length octets, where there is room.
 fn put_vector16(field: &[u8], at: usize, out: &mut [u8]) -> usize
     requires { length field.now ≤ most16 }
@@ -49,6 +40,7 @@ fn put_vector16(field: &[u8], at: usize, out: &mut [u8]) -> usize
     octets::put_octets(out, next, field)
 }
 
+#[tactic(auto, using(crate::proofs::Pieces::header_fits, crate::proofs::Pieces::list_written))]
 pub(crate) fn supported_profiles(version: u8, list: &[u8], count: usize, out: &mut [u8])
     requires { writing (M.supported_profiles version list.now) (length out.old) ≡ written count }
     ensures { out.new ≡ front (M.supported_profiles version list.now) out.old }
@@ -58,6 +50,7 @@ pub(crate) fn supported_profiles(version: u8, list: &[u8], count: usize, out: &m
     put_vector16(list, b, out);
 }
 
+#[tactic(auto, using(crate::proofs::Pieces::header_fits))]
 pub(crate) fn unsupported_version(version: u8, count: usize, out: &mut [u8])
     requires { writing (M.unsupported_version version) (length out.old) ≡ written count }
     ensures { out.new ≡ front (M.unsupported_version version) out.old }
@@ -66,6 +59,7 @@ pub(crate) fn unsupported_version(version: u8, count: usize, out: &mut [u8])
     octets::put_octet(out, a, version);
 }
 
+#[tactic(auto, using(crate::proofs::Pieces::header_fits, message::proofs::KeyFields::keys_written))]
 pub(crate) fn media_keys(
     identifier: &[u8],
     profile: u16,
@@ -80,10 +74,13 @@ pub(crate) fn media_keys(
     let b = octets::put_octets(out, a, identifier);
     let c = octets::put_number16(out, b, profile);
     let d = put_vector8(keys.mki, c, out);
-    let e = put_two(keys.client_key, keys.server_key, d, out);
-    put_two(keys.client_salt, keys.server_salt, e, out);
+    let e = put_vector8(keys.client_key, d, out);
+    let f = put_vector8(keys.server_key, e, out);
+    let g = put_vector8(keys.client_salt, f, out);
+    put_vector8(keys.server_salt, g, out);
 }
 
+#[tactic(auto, using(crate::proofs::Pieces::header_fits, crate::proofs::Pieces::dtls_written))]
 pub(crate) fn tunneled_dtls(identifier: &[u8], dtls: &[u8], count: usize, out: &mut [u8])
     requires { writing (M.tunneled_dtls identifier.now dtls.now) (length out.old) ≡ written count }
     ensures { out.new ≡ front (M.tunneled_dtls identifier.now dtls.now) out.old }
@@ -93,6 +90,7 @@ pub(crate) fn tunneled_dtls(identifier: &[u8], dtls: &[u8], count: usize, out: &
     put_vector16(dtls, b, out);
 }
 
+#[tactic(auto, using(crate::proofs::Pieces::header_fits))]
 pub(crate) fn endpoint_disconnect(identifier: &[u8], count: usize, out: &mut [u8])
     requires { writing (M.endpoint_disconnect identifier.now) (length out.old) ≡ written count }
     ensures { out.new ≡ front (M.endpoint_disconnect identifier.now) out.old }

@@ -6,12 +6,6 @@ use Rattle.octets.specs.Number.{octets16}
 use Rattle.message.specs.Limits.{header}
 use Rattle.writers.proofs.putting.put_header.Goals as goal
 
-pub overflow_sub-count : goal.overflow_sub-count
-overflow_sub-count c = omega (arith, c.requires)
-
-pub overflow_cast-count : goal.overflow_cast-count
-overflow_cast-count c = omega (arith, c.requires)
-
 pub returns : goal.returns
 returns c =
     let a = c.args in
