@@ -1,8 +1,8 @@
 // The fields of MediaKeys behind its profile, each of which stands behind one length octet.
-ghost use Rattle.std.specs.Prelude.{◌≡◌, true};
+ghost use Rattle.std.specs.Prelude.{◌≡◌};
 ghost use Rattle.writers.specs.Keys as Spec;
 
-use message::limits::MOST_8;
+use message::limits::{MOST_8, WIDTH};
 
 #[derive(Clone, Copy)]
 pub struct KeyFields<'a> {
@@ -15,7 +15,7 @@ pub struct KeyFields<'a> {
 
 impl KeyFields<'_> {
     // Whether the length octets can tell them, and only the MKI is empty.
-    pub(crate) fn fit(self) -> bool
+    fn fit(self) -> bool
         ensures { result ≡ Spec.fit self.entry }
     {
         octets::within(0, MOST_8, self.mki.len())
@@ -25,16 +25,16 @@ impl KeyFields<'_> {
             & octets::within(1, MOST_8, self.server_salt.len())
     }
 
-    // How many octets profile and fields take.
+    // How long the body is with them; none where they don't fit.
     #[tactic(auto, using(message::proofs::KeyFields::keys_fit_lem))]
-    pub(crate) fn vectors(self) -> usize
-        requires { Spec.fit self ≡ true }
-        ensures { result ≡ Spec.octets self.entry }
+    pub(crate) fn body_length(self) -> Option<usize>
+        ensures { result ≡ Spec.body_length self.entry }
     {
-        7 + self.mki.len()
-            + self.client_key.len()
-            + self.server_key.len()
-            + self.client_salt.len()
-            + self.server_salt.len()
+        if !self.fit() {
+            return None;
+        }
+        let keys = self.client_key.len() + self.server_key.len();
+        let salts = self.client_salt.len() + self.server_salt.len();
+        Some(WIDTH + 7 + self.mki.len() + keys + salts)
     }
 }

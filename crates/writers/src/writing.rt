@@ -9,20 +9,18 @@ ghost use Rattle.writers.specs.Steps as Steps;
 
 use crate::keys::KeyFields;
 use crate::putting;
-use message::limits::{BODY_LIMIT, HEADER, MOST_16, WIDTH};
+use message::limits::{BODY_BEFORE_DTLS, BODY_LIMIT, HEADER, MOST_16, WIDTH};
 use octets::Refusal;
 
-// How many octets the message has. Refusals 20; 5; 2; 13 by the identifier's length, whether the fields fit and the
-// body's length, or the message's length. A message with no identifier gives WIDTH.
-fn fit(identifier: usize, fields: bool, body_length: usize, room: usize) -> Result<usize, Refusal>
-    ensures { answer_of result ≡ Steps.answer_by (eqb identifier width) fields body_length room }
+// How many octets the message has. Refusals 20; 5; 2; 13 by the identifier's length, the body's length, none where its fields
+// don't fit, and the message's length. A message with no identifier gives WIDTH.
+fn fit(identifier: usize, body_length: Option<usize>, room: usize) -> Result<usize, Refusal>
+    ensures { answer_of result ≡ Steps.answer_for (eqb identifier width) body_length room }
 {
     if identifier != WIDTH {
         return Err(Refusal::IdentifierLength);
     }
-    if !fields {
-        return Err(Refusal::BadBody);
-    }
+    let body_length = body_length.ok_or(Refusal::BadBody)?;
     if (BODY_LIMIT as usize) < body_length {
         return Err(Refusal::Oversize);
     }
@@ -38,7 +36,7 @@ pub fn write_supported_profiles(version: u8, list: &[u8], out: &mut [u8]) -> Res
     ensures { Writes (M.supported_profiles version list.now) out.old out.new (answer_of result) }
 {
     let fields = octets::within(1, MOST_16, list.len()) & (list.len() % 2 == 0);
-    let count = fit(WIDTH, fields, 3 + list.len(), out.len())?;
+    let count = fit(WIDTH, fields.then_some(3 + list.len()), out.len())?;
     putting::supported_profiles(version, list, count, out);
     Ok(count)
 }
@@ -48,20 +46,9 @@ pub fn write_supported_profiles(version: u8, list: &[u8], out: &mut [u8]) -> Res
 pub fn write_unsupported_version(version: u8, out: &mut [u8]) -> Result<usize, Refusal>
     ensures { Writes (M.unsupported_version version) out.old out.new (answer_of result) }
 {
-    let count = fit(WIDTH, true, 1, out.len())?;
+    let count = fit(WIDTH, Some(1), out.len())?;
     putting::unsupported_version(version, count, out);
     Ok(count)
-}
-
-// MediaKeys by the lengths of its fields.
-#[tactic(auto, using(message::proofs::KeyFields::keys_fit_lem))]
-fn fit_media_keys(identifier: usize, keys: KeyFields<'_>, room: usize) -> Result<usize, Refusal>
-    ensures { answer_of result ≡ Keys.answer identifier keys.entry room }
-{
-    if !keys.fit() {
-        return fit(identifier, false, 0, room);
-    }
-    fit(identifier, true, WIDTH + keys.vectors(), room)
 }
 
 // MediaKeys: refusals 20; 5; 2; 13.
@@ -74,7 +61,7 @@ pub fn write_media_keys(
 ) -> Result<usize, Refusal>
     ensures { Writes (Keys.media_keys identifier.now profile keys.entry) out.old out.new (answer_of result) }
 {
-    let count = fit_media_keys(identifier.len(), keys, out.len())?;
+    let count = fit(identifier.len(), keys.body_length(), out.len())?;
     putting::media_keys(identifier, profile, keys, count, out);
     Ok(count)
 }
@@ -85,7 +72,8 @@ pub fn write_tunneled_dtls(identifier: &[u8], dtls: &[u8], out: &mut [u8]) -> Re
     ensures { Writes (M.tunneled_dtls identifier.now dtls.now) out.old out.new (answer_of result) }
 {
     let fields = octets::within(1, MOST_16, dtls.len());
-    let count = fit(identifier.len(), fields, WIDTH + 2 + dtls.len(), out.len())?;
+    let body_length = fields.then_some(BODY_BEFORE_DTLS + dtls.len());
+    let count = fit(identifier.len(), body_length, out.len())?;
     putting::tunneled_dtls(identifier, dtls, count, out);
     Ok(count)
 }
@@ -95,7 +83,7 @@ pub fn write_tunneled_dtls(identifier: &[u8], dtls: &[u8], out: &mut [u8]) -> Re
 pub fn write_endpoint_disconnect(identifier: &[u8], out: &mut [u8]) -> Result<usize, Refusal>
     ensures { Writes (M.endpoint_disconnect identifier.now) out.old out.new (answer_of result) }
 {
-    let count = fit(identifier.len(), true, WIDTH, out.len())?;
+    let count = fit(identifier.len(), Some(WIDTH), out.len())?;
     putting::endpoint_disconnect(identifier, count, out);
     Ok(count)
 }
