@@ -5,10 +5,12 @@ use mathlib.Core.List.{List}
 use native.Mathlib.Omega.{arith}
 use lib.ListN.{length, get_or, take, drop}
 use lib.Seq.{get_or-take, get_or-drop}
-use Rattle.aes.specs.Field.{xor, sub_byte, inv_affine}
-use Rattle.aes.specs.State.{at, state_by, sub_bytes, shift_rows, inv_shift_rows, row_times, mixed, add_round_key}
+use Rattle.aes.specs.Field.{xor, mul, sub_byte, inv_affine}
+use Rattle.aes.specs.State.{at, state_by, sub_bytes, shift_rows, inv_shift_rows, row_times, mixed, mix_columns, inv_mix_columns, add_round_key}
 use Rattle.aes.specs.KeyExpansion.{round_key}
-use Rattle.aes.specs.Columns.{inv_affines, next_rows, mixed_turns}
+use Rattle.aes.specs.Columns.{inv_affines, next_rows}
+use Rattle.aes.proofs.Xor.{sum_comm}
+use Rattle.aes.proofs.MixLaws.{inv_mix_octet}
 use Rattle.aes.proofs.StateLaws.{at_state, state_same, state_long}
 
 -- the place of an octet is its row and its column
@@ -23,6 +25,26 @@ octet_of f i h = place (state_by f) i ∙ at_state f (i % 4) (i / 4) (omega arit
 at_place : (s : List ℕ) (r c i : ℕ) → r + 4 * c ≡ i → at s r c ≡ get_or s i 0
 unfolding at
 at_place s r c i e = ap (λ (k : ℕ). get_or s k 0) e
+
+-- the turns of the columns
+
+at_next : (s : List ℕ) (r c : ℕ) → r < 4 → c < 4 → at (next_rows s) r c ≡ at s ((r + 1) % 4) c
+unfolding next_rows
+at_next s r c hr hc = at_state (λ r c. at s ((r + 1) % 4) c) r c hr hc
+
+second : (s : List ℕ) (r c : ℕ) → r < 4 → c < 4 → at (next_rows (next_rows s)) r c ≡ at s ((r + 2) % 4) c
+second s r c hr hc =
+    at_next (next_rows s) r c hr hc ∙ at_next s ((r + 1) % 4) c (omega arith) hc
+    ∙ ap (λ (k : ℕ). at s k c) (omega arith)
+
+third : (s : List ℕ) (r c : ℕ) → r < 4 → c < 4 → at (next_rows (next_rows (next_rows s))) r c ≡ at s ((r + 3) % 4) c
+third s r c hr hc =
+    at_next (next_rows (next_rows s)) r c hr hc ∙ second s ((r + 1) % 4) c (omega arith) hc
+    ∙ ap (λ (k : ℕ). at s k c) (omega arith)
+
+-- to each octet {04} times it and the one two rows on is added; b has the columns turned by two rows
+unfoldable pub near_columns : (s b : List ℕ) → List ℕ
+near_columns s b = state_by (λ r c. xor (at s r c) (mul 4 (xor (at s r c) (at b r c))))
 
 module _ (s : List ℕ) (i : ℕ) (h : i < 16) where
   pub sub_at : get_or (sub_bytes s) i 0 ≡ sub_byte (get_or s i 0)
@@ -51,37 +73,65 @@ module _ (s : List ℕ) (i : ℕ) (h : i < 16) where
   unfolding next_rows
   next_at = octet_of (λ r c. at s ((r + 1) % 4) c) i h ∙ at_place s ((i % 4 + 1) % 4) (i / 4) (i / 4 * 4 + (i + 1) % 4) (omega arith)
 
-  pub turns_at : (j k l m : ℕ) (a b d : List ℕ)
-      → get_or (mixed_turns j k l m s a b d) i 0 ≡ row_times j k l m (get_or s i 0) (get_or a i 0) (get_or b i 0) (get_or d i 0)
-  unfolding mixed_turns
-  turns_at j k l m a b d =
-      octet_of (λ r c. row_times j k l m (at s r c) (at a r c) (at b r c) (at d r c)) i h
-      ∙ rw (← place s i, ← place a i, ← place b i, ← place d i)
+  -- from the octets of the state's own column, each of which the next rows bring to place i
+  pub mixed_at : (j k l m : ℕ)
+      → get_or (mixed j k l m s) i 0
+      ≡ row_times j k l m (get_or s i 0) (get_or (next_rows s) i 0) (get_or (next_rows (next_rows s)) i 0) (get_or (next_rows (next_rows (next_rows s))) i 0)
+  unfolding mixed
+  mixed_at j k l m =
+      octet_of (λ r c. row_times j k l m (at s r c) (at s ((r + 1) % 4) c) (at s ((r + 2) % 4) c) (at s ((r + 3) % 4) c)) i h
+      ∙ rw (
+        place (next_rows (next_rows (next_rows s))) i,
+        place (next_rows (next_rows s)) i,
+        place (next_rows s) i,
+        place s i,
+        third s (i % 4) (i / 4) (omega arith) (omega arith),
+        second s (i % 4) (i / 4) (omega arith) (omega arith),
+        at_next s (i % 4) (i / 4) (omega arith) (omega arith),
+      ) refl
 
--- the four turns of the columns are what the matrices want
+  pub near_at : (b : List ℕ) → get_or (near_columns s b) i 0 ≡ xor (get_or s i 0) (mul 4 (xor (get_or s i 0) (get_or b i 0)))
+  unfolding near_columns
+  near_at b =
+      octet_of (λ r c. xor (at s r c) (mul 4 (xor (at s r c) (at b r c)))) i h
+      ∙ rw (← place s i, ← place b i)
 
-at_next : (s : List ℕ) (r c : ℕ) → r < 4 → c < 4 → at (next_rows s) r c ≡ at s ((r + 1) % 4) c
-unfolding next_rows
-at_next s r c hr hc = at_state (λ r c. at s ((r + 1) % 4) c) r c hr hc
+-- of them the matrix of MixColumns makes what that of InvMixColumns makes of the state
 
-second : (s : List ℕ) (r c : ℕ) → r < 4 → c < 4 → at (next_rows (next_rows s)) r c ≡ at s ((r + 2) % 4) c
-second s r c hr hc =
-    at_next (next_rows s) r c hr hc ∙ at_next s ((r + 1) % 4) c (omega arith) hc
-    ∙ ap (λ (k : ℕ). at s k c) (omega arith)
+at_near : (s : List ℕ) (r c : ℕ) → r < 4 → c < 4
+    → at (near_columns s (next_rows (next_rows s))) r c ≡ xor (at s r c) (mul 4 (xor (at s r c) (at s ((r + 2) % 4) c)))
+unfolding near_columns
+at_near s r c hr hc =
+    at_state (λ r c. xor (at s r c) (mul 4 (xor (at s r c) (at (next_rows (next_rows s)) r c)))) r c hr hc
+    ∙ ap (λ (x : ℕ). xor (at s r c) (mul 4 (xor (at s r c) x))) (second s r c hr hc)
 
-third : (s : List ℕ) (r c : ℕ) → r < 4 → c < 4 → at (next_rows (next_rows (next_rows s))) r c ≡ at s ((r + 3) % 4) c
-third s r c hr hc =
-    at_next (next_rows (next_rows s)) r c hr hc ∙ second s ((r + 1) % 4) c (omega arith) hc
-    ∙ ap (λ (k : ℕ). at s k c) (omega arith)
+at_small : (s : List ℕ) → ((i : ℕ) → get_or s i 0 < 256) → (r c : ℕ) → at s r c < 256
+unfolding at
+at_small s o r c = o (r + 4 * c)
 
-module _ (j k l m : ℕ) (s : List ℕ) where
-  pub turns_mixed : mixed_turns j k l m s (next_rows s) (next_rows (next_rows s)) (next_rows (next_rows (next_rows s))) ≡ mixed j k l m s
-  unfolding mixed_turns mixed
-  turns_mixed =
-      state_same
-      (λ r c. row_times j k l m (at s r c) (at (next_rows s) r c) (at (next_rows (next_rows s)) r c) (at (next_rows (next_rows (next_rows s))) r c))
-      (λ r c. row_times j k l m (at s r c) (at s ((r + 1) % 4) c) (at s ((r + 2) % 4) c) (at s ((r + 3) % 4) c))
-      (λ r c hr hc. rw (at_next s r c hr hc, second s r c hr hc, third s r c hr hc) refl)
+near_row : (s : List ℕ) → ((i : ℕ) → get_or s i 0 < 256) → (r c : ℕ) → r < 4 → c < 4
+    → row_times 2 3 1 1 (at (near_columns s (next_rows (next_rows s))) r c) (at (near_columns s (next_rows (next_rows s))) ((r + 1) % 4) c)
+    (at (near_columns s (next_rows (next_rows s))) ((r + 2) % 4) c) (at (near_columns s (next_rows (next_rows s))) ((r + 3) % 4) c)
+    ≡ row_times 14 11 13 9 (at s r c) (at s ((r + 1) % 4) c) (at s ((r + 2) % 4) c) (at s ((r + 3) % 4) c)
+near_row s o r c hr hc =
+    let a = at s r c in
+    let b = at s ((r + 1) % 4) c in
+    let d = at s ((r + 2) % 4) c in
+    let e = at s ((r + 3) % 4) c in
+    let q1 : ((r + 1) % 4 + 2) % 4 ≡ (r + 3) % 4 = omega arith in
+    let q2 : ((r + 2) % 4 + 2) % 4 ≡ r = omega arith in
+    let q3 : ((r + 3) % 4 + 2) % 4 ≡ (r + 1) % 4 = omega arith in
+    rw (at_near s r c hr hc, at_near s ((r + 1) % 4) c (omega arith) hc, at_near s ((r + 2) % 4) c (omega arith) hc, at_near s ((r + 3) % 4) c (omega arith) hc, q1, q2, q3, sum_comm d a, sum_comm e b)
+    (inv_mix_octet a b d e (at_small s o r c) (at_small s o ((r + 1) % 4) c) (at_small s o ((r + 2) % 4) c) (at_small s o ((r + 3) % 4) c))
+
+pub near_mixed : (s : List ℕ) → ((i : ℕ) → get_or s i 0 < 256) → mix_columns (near_columns s (next_rows (next_rows s))) ≡ inv_mix_columns s
+unfolding mix_columns inv_mix_columns mixed
+near_mixed s o =
+    let t = near_columns s (next_rows (next_rows s)) in
+    state_same
+    (λ r c. row_times 2 3 1 1 (at t r c) (at t ((r + 1) % 4) c) (at t ((r + 2) % 4) c) (at t ((r + 3) % 4) c))
+    (λ r c. row_times 14 11 13 9 (at s r c) (at s ((r + 1) % 4) c) (at s ((r + 2) % 4) c) (at s ((r + 3) % 4) c))
+    (λ r c hr hc. near_row s o r c hr hc)
 
 -- every transformed state has 16 octets
 
@@ -105,10 +155,14 @@ pub next_long : (s : List ℕ) → length (next_rows s) ≡ 16
 unfolding next_rows
 next_long s = state_long (λ r c. at s ((r + 1) % 4) c)
 
-pub turns_long : (j k l m : ℕ) (s a b d : List ℕ) → length (mixed_turns j k l m s a b d) ≡ 16
-unfolding mixed_turns
-turns_long j k l m s a b d = state_long (λ r c. row_times j k l m (at s r c) (at a r c) (at b r c) (at d r c))
+pub mix_long : (s : List ℕ) → length (mix_columns s) ≡ 16
+unfolding mix_columns mixed
+mix_long s = state_long (λ r c. row_times 2 3 1 1 (at s r c) (at s ((r + 1) % 4) c) (at s ((r + 2) % 4) c) (at s ((r + 3) % 4) c))
 
 pub add_long : (s k : List ℕ) → length (add_round_key s k) ≡ 16
 unfolding add_round_key
 add_long s k = state_long (λ r c. xor (at s r c) (at k r c))
+
+pub near_long : (s b : List ℕ) → length (near_columns s b) ≡ 16
+unfolding near_columns
+near_long s b = state_long (λ r c. xor (at s r c) (mul 4 (xor (at s r c) (at b r c))))

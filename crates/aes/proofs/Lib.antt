@@ -8,6 +8,7 @@ pub mod StateLaws
 pub mod Steps
 pub mod Entries
 pub mod Filled
+pub mod Made
 pub mod Rcon
 pub mod ScheduleLaws
 pub mod Inverse
