@@ -42,10 +42,6 @@ third s r c hr hc =
     at_next (next_rows (next_rows s)) r c hr hc ∙ second s ((r + 1) % 4) c (omega arith) hc
     ∙ ap (λ (k : ℕ). at s k c) (omega arith)
 
--- to each octet {04} times it and the one two rows on is added; b has the columns turned by two rows
-unfoldable pub near_columns : (s b : List ℕ) → List ℕ
-near_columns s b = state_by (λ r c. xor (at s r c) (mul 4 (xor (at s r c) (at b r c))))
-
 module _ (s : List ℕ) (i : ℕ) (h : i < 16) where
   pub sub_at : get_or (sub_bytes s) i 0 ≡ sub_byte (get_or s i 0)
   unfolding sub_bytes
@@ -90,49 +86,6 @@ module _ (s : List ℕ) (i : ℕ) (h : i < 16) where
         at_next s (i % 4) (i / 4) (omega arith) (omega arith),
       ) refl
 
-  pub near_at : (b : List ℕ) → get_or (near_columns s b) i 0 ≡ xor (get_or s i 0) (mul 4 (xor (get_or s i 0) (get_or b i 0)))
-  unfolding near_columns
-  near_at b =
-      octet_of (λ r c. xor (at s r c) (mul 4 (xor (at s r c) (at b r c)))) i h
-      ∙ rw (← place s i, ← place b i)
-
--- of them the matrix of MixColumns makes what that of InvMixColumns makes of the state
-
-at_near : (s : List ℕ) (r c : ℕ) → r < 4 → c < 4
-    → at (near_columns s (next_rows (next_rows s))) r c ≡ xor (at s r c) (mul 4 (xor (at s r c) (at s ((r + 2) % 4) c)))
-unfolding near_columns
-at_near s r c hr hc =
-    at_state (λ r c. xor (at s r c) (mul 4 (xor (at s r c) (at (next_rows (next_rows s)) r c)))) r c hr hc
-    ∙ ap (λ (x : ℕ). xor (at s r c) (mul 4 (xor (at s r c) x))) (second s r c hr hc)
-
-at_small : (s : List ℕ) → ((i : ℕ) → get_or s i 0 < 256) → (r c : ℕ) → at s r c < 256
-unfolding at
-at_small s o r c = o (r + 4 * c)
-
-near_row : (s : List ℕ) → ((i : ℕ) → get_or s i 0 < 256) → (r c : ℕ) → r < 4 → c < 4
-    → row_times 2 3 1 1 (at (near_columns s (next_rows (next_rows s))) r c) (at (near_columns s (next_rows (next_rows s))) ((r + 1) % 4) c)
-    (at (near_columns s (next_rows (next_rows s))) ((r + 2) % 4) c) (at (near_columns s (next_rows (next_rows s))) ((r + 3) % 4) c)
-    ≡ row_times 14 11 13 9 (at s r c) (at s ((r + 1) % 4) c) (at s ((r + 2) % 4) c) (at s ((r + 3) % 4) c)
-near_row s o r c hr hc =
-    let a = at s r c in
-    let b = at s ((r + 1) % 4) c in
-    let d = at s ((r + 2) % 4) c in
-    let e = at s ((r + 3) % 4) c in
-    let q1 : ((r + 1) % 4 + 2) % 4 ≡ (r + 3) % 4 = omega arith in
-    let q2 : ((r + 2) % 4 + 2) % 4 ≡ r = omega arith in
-    let q3 : ((r + 3) % 4 + 2) % 4 ≡ (r + 1) % 4 = omega arith in
-    rw (at_near s r c hr hc, at_near s ((r + 1) % 4) c (omega arith) hc, at_near s ((r + 2) % 4) c (omega arith) hc, at_near s ((r + 3) % 4) c (omega arith) hc, q1, q2, q3, sum_comm d a, sum_comm e b)
-    (inv_mix_octet a b d e (at_small s o r c) (at_small s o ((r + 1) % 4) c) (at_small s o ((r + 2) % 4) c) (at_small s o ((r + 3) % 4) c))
-
-pub near_mixed : (s : List ℕ) → ((i : ℕ) → get_or s i 0 < 256) → mix_columns (near_columns s (next_rows (next_rows s))) ≡ inv_mix_columns s
-unfolding mix_columns inv_mix_columns mixed
-near_mixed s o =
-    let t = near_columns s (next_rows (next_rows s)) in
-    state_same
-    (λ r c. row_times 2 3 1 1 (at t r c) (at t ((r + 1) % 4) c) (at t ((r + 2) % 4) c) (at t ((r + 3) % 4) c))
-    (λ r c. row_times 14 11 13 9 (at s r c) (at s ((r + 1) % 4) c) (at s ((r + 2) % 4) c) (at s ((r + 3) % 4) c))
-    (λ r c hr hc. near_row s o r c hr hc)
-
 -- every transformed state has 16 octets
 
 pub shift_long : (s : List ℕ) → length (shift_rows s) ≡ 16
@@ -155,14 +108,11 @@ pub next_long : (s : List ℕ) → length (next_rows s) ≡ 16
 unfolding next_rows
 next_long s = state_long (λ r c. at s ((r + 1) % 4) c)
 
-pub mix_long : (s : List ℕ) → length (mix_columns s) ≡ 16
-unfolding mix_columns mixed
-mix_long s = state_long (λ r c. row_times 2 3 1 1 (at s r c) (at s ((r + 1) % 4) c) (at s ((r + 2) % 4) c) (at s ((r + 3) % 4) c))
+pub mixed_long : (j k l m : ℕ) (s : List ℕ) → length (mixed j k l m s) ≡ 16
+unfolding mixed
+mixed_long j k l m s =
+    state_long (λ r c. row_times j k l m (at s r c) (at s ((r + 1) % 4) c) (at s ((r + 2) % 4) c) (at s ((r + 3) % 4) c))
 
 pub add_long : (s k : List ℕ) → length (add_round_key s k) ≡ 16
 unfolding add_round_key
 add_long s k = state_long (λ r c. xor (at s r c) (at k r c))
-
-pub near_long : (s b : List ℕ) → length (near_columns s b) ≡ 16
-unfolding near_columns
-near_long s b = state_long (λ r c. xor (at s r c) (mul 4 (xor (at s r c) (at b r c))))

@@ -2,13 +2,13 @@
 use Prim.Native.Nat.{ℕ, zero, suc, ◌+◌, ◌*◌, ◌-◌, ◌/◌, ◌%◌, ◌<◌, ◌≤◌}
 use mathlib.Core.Path.{◌≡◌, refl, sym, ap, subst, ◌∙◌}
 use mathlib.Core.Bool.{Bool, true, false, cond}
-use mathlib.Core.List.{List, [], ◌∷◌, ◌++◌}
+use mathlib.Core.List.{List, [], ◌∷◌, ◌++◌, append_assoc}
 use native.Mathlib.Omega.{arith}
 use native.Mathlib.Numerals.{add-one}
 use borrow.Author.Tests.{ltb-true, ltb-false, eq-eqb, ne_eqb}
 use lib.Dec.{eqb, ltb}
-use lib.ListN.{length, get_or, set, take, drop, length-append, get_or-append}
-use lib.Seq.{get_or-take}
+use lib.ListN.{length, get_or, set, take, drop, length-append, length-set}
+use lib.Seq.{get_or-take, take-suc-set}
 use Rattle.octets.specs.Number.{Octets}
 use Rattle.octets.proofs.OctetLaws.{four_octets, append_octets, take_octets, drop_octets}
 use Rattle.aes.specs.Field.{xor, sub_byte}
@@ -117,13 +117,39 @@ next_taken w i h =
     next_octets (take (4 * i) w) i
     ∙ rw (s 0 (omega arith), s 1 (omega arith), s 2 (omega arith), s 3 (omega arith)) (sym (next_octets w i))
 
-pub one_longer : (key w v : List ℕ) (i : ℕ) → 4 ≤ i → take (4 * i) w ≡ schedule (i - 4) key → v ≡ next_word w i
-    → take (4 * i) w ++ v ≡ schedule (i + 1 - 4) key
+-- a word by its octets
+all_four : (w : List ℕ) (i : ℕ) → (get_or (next_word w i) 0 0 ∷ get_or (next_word w i) 1 0 ∷ get_or (next_word w i) 2 0 ∷ get_or (next_word w i) 3 0 ∷ []) ≡ next_word w i
+unfolding next_word xor_words
+all_four w i = refl
+
+next_set : (w : List ℕ) (n m x : ℕ) → n < length w → m ≡ n + 1 → take m (set w n x) ≡ take n w ++ x ∷ []
+next_set w n m x h e = rw (e, add-one n) (take-suc-set w n x h)
+
+four_set : (w : List ℕ) (n a b c d : ℕ) → n + 4 ≤ length w
+    → take (n + 4) (set (set (set (set w n a) (n + 1) b) (n + 2) c) (n + 3) d) ≡ take n w ++ (a ∷ b ∷ c ∷ d ∷ [])
+four_set w n a b c d h =
+    let s = set w n a in
+    let t = set s (n + 1) b in
+    let u = set t (n + 2) c in
+    let ls : length s ≡ length w = length-set w n a in
+    let lt : length t ≡ length w = length-set s (n + 1) b ∙ ls in
+    let lu : length u ≡ length w = length-set t (n + 2) c ∙ lt in
+    next_set u (n + 3) (n + 4) d (omega arith) (omega arith)
+    ∙ rw (
+      next_set t (n + 2) (n + 3) c (omega arith) (omega arith),
+      next_set s (n + 1) (n + 2) b (omega arith) (omega arith),
+      next_set w n (n + 1) a (omega arith) refl,
+    ) (simp append_assoc)
+
+pub one_longer : (key w v : List ℕ) (i : ℕ) → length w ≡ 176 → 4 ≤ i → i < 44 → take (4 * i) w ≡ schedule (i - 4) key → v ≡ next_word w i
+    → take (4 * (i + 1)) (set (set (set (set w (4 * i) (get_or v 0 0)) (4 * i + 1) (get_or v 1 0)) (4 * i + 2) (get_or v 2 0)) (4 * i + 3) (get_or v 3 0))
+    ≡ schedule (i + 1 - 4) key
 unfolding schedule longer
-one_longer key w v i h e f =
+one_longer key w v i l h j e f =
     let n : i + 1 - 4 ≡ suc (i - 4) = omega arith in
     let m : 4 + (i - 4) ≡ i = omega arith in
-    rw (n, m, f, ← next_taken w i h, e) refl
+    let k : 4 * (i + 1) ≡ 4 * i + 4 = omega arith in
+    rw (n, m, k, four_set w (4 * i) (get_or v 0 0) (get_or v 1 0) (get_or v 2 0) (get_or v 3 0) (omega arith), f, all_four w i, ← next_taken w i h, e) refl
 
 -- ---- what is added, by words
 

@@ -1,5 +1,5 @@
 -- The steps in which the code does InvSubBytes, MixColumns and InvMixColumns: no part of FIPS 197. That they come to the same are
--- `inverse_circuits` (proofs/CircuitLaws.antt), `mixed_at` and `near_mixed` (proofs/Entries.antt).
+-- `inverse_circuits` (proofs/CircuitLaws.antt), `mixed_at` (proofs/Entries.antt).
 use Rattle.std.specs.Prelude.{ℕ, ◌+◌, ◌%◌, List}
 use Rattle.aes.specs.Field.{inv_affine}
 use Rattle.aes.specs.State.{at, state_by}

@@ -7,7 +7,7 @@ ghost use Rattle.aes.specs.Columns.{inv_affines, next_rows};
 ghost use Rattle.aes.specs.State.{sub_bytes, inv_sub_bytes, shift_rows, inv_shift_rows, mix_columns, inv_mix_columns, add_round_key};
 
 use crate::circuit::{inv_affine, sub_byte};
-use crate::field::{four_times, mix_octet};
+use crate::field::{inv_mix_octet, mix_octet};
 use std::array::from_fn;
 
 pub(crate) fn sub_bytes(s: [u8; 16]) -> [u8; 16]
@@ -69,12 +69,14 @@ pub(crate) fn mix_columns(s: [u8; 16]) -> [u8; 16]
     from_fn(|i| mix_octet(s[i], a[i], b[i], c[i]))
 }
 
-// The inverse matrix is the matrix, after a multiple of {04} of each octet and the one two rows on.
+// Not one function with `mix_columns`, over the octet's rule: each loop has one caller, so that it stands in that caller's.
 pub(crate) fn inv_mix_columns(s: [u8; 16]) -> [u8; 16]
     ensures { result ≡ inv_mix_columns s }
 {
-    let b = next_rows(next_rows(s));
-    mix_columns(from_fn(|i| s[i] ^ four_times(s[i] ^ b[i])))
+    let a = next_rows(s);
+    let b = next_rows(a);
+    let c = next_rows(b);
+    from_fn(|i| inv_mix_octet(s[i], a[i], b[i], c[i]))
 }
 
 // AddRoundKey with the key of round n.

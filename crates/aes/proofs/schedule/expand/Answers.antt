@@ -2,10 +2,8 @@ use Prim.Native.Nat.{ℕ, ◌+◌, ◌*◌}
 use mathlib.Core.Path.{◌≡◌, sym, ap, ◌∙◌}
 use native.Mathlib.Omega.{arith}
 use borrow.Author.Rules.{rules}
-use borrow.Rule.Slice.PartMut.{same_len_mid}
-use lib.ListN.{length, drop, replicate, length-append}
+use lib.ListN.{length, drop, replicate, length-append, length-set}
 use lib.Seq.{take-append-le, take_all}
-use Rattle.std.proofs.lemmas.Slice.{take-put_mid}
 use Rattle.aes.specs.KeyExpansion.{schedule, key_expansion}
 use Rattle.aes.proofs.ScheduleLaws.{one_longer}
 use Rattle.aes.proofs.schedule.expand.Goals as goal
@@ -24,12 +22,9 @@ loop-i-init c =
 pub loop-i-preserved : goal.loop-i-preserved
 loop-i-preserved c =
     let l = c.loop-i in
-    let v = c.copy_from_slice-in-loop-i.new.self in
-    let n : length v ≡ 4 = search rules in
     let k = l.invariant.0 in (
-      same_len_mid (4 * l.i) _ l.w v c.copy_from_slice-in-loop-i.auto.self ∙ k,
-      take-put_mid (4 * l.i) _ l.w v (4 * (l.i + 1)) (omega arith) (omega arith)
-          ∙ one_longer c.args.key l.w v l.i (omega arith) l.invariant.1 (c.copy_from_slice-in-loop-i.ensures.after ∙ c.next_word-v.ensures),
+      simp length-set k,
+      one_longer c.args.key l.w c.next_word-v.result l.i k (omega arith) (omega arith) l.invariant.1 c.next_word-v.ensures,
     )
 
 pub returns : goal.returns
