@@ -5,13 +5,11 @@ use mathlib.Core.List.{List}
 use native.Mathlib.Omega.{arith}
 use lib.ListN.{length, get_or, take, drop}
 use lib.Seq.{get_or-take, get_or-drop}
-use Rattle.aes.specs.Field.{xor, mul, sub_byte, inv_affine}
-use Rattle.aes.specs.State.{at, state_by, sub_bytes, shift_rows, inv_shift_rows, row_times, mixed, mix_columns, inv_mix_columns, add_round_key}
+use Rattle.aes.specs.Field.{xor, sub_byte, inv_affine}
+use Rattle.aes.specs.State.{at, state_by, sub_bytes, shift_rows, inv_shift_rows, row_times, mixed, add_round_key}
 use Rattle.aes.specs.KeyExpansion.{round_key}
 use Rattle.aes.specs.Columns.{inv_affines, next_rows}
-use Rattle.aes.proofs.Xor.{sum_comm}
-use Rattle.aes.proofs.MixLaws.{inv_mix_octet}
-use Rattle.aes.proofs.StateLaws.{at_state, state_same, state_long}
+use Rattle.aes.proofs.StateLaws.{at_state, state_long}
 
 -- the place of an octet is its row and its column
 

@@ -1,13 +1,13 @@
 -- The octets of the key schedule.
 use Prim.Native.Nat.{ℕ, zero, suc, ◌+◌, ◌*◌, ◌-◌, ◌/◌, ◌%◌, ◌<◌, ◌≤◌}
-use mathlib.Core.Path.{◌≡◌, refl, sym, ap, subst, ◌∙◌}
+use mathlib.Core.Path.{◌≡◌, refl, sym, ◌∙◌}
 use mathlib.Core.Bool.{Bool, true, false, cond}
 use mathlib.Core.List.{List, [], ◌∷◌, ◌++◌, append_assoc}
 use native.Mathlib.Omega.{arith}
 use native.Mathlib.Numerals.{add-one}
-use borrow.Author.Tests.{ltb-true, ltb-false, eq-eqb, ne_eqb}
-use lib.Dec.{eqb, ltb}
-use lib.ListN.{length, get_or, set, take, drop, length-append, length-set}
+use borrow.Author.Tests.{eq-eqb, ne_eqb}
+use lib.Dec.{eqb}
+use lib.ListN.{length, get_or, set, take, drop, length-set}
 use lib.Seq.{get_or-take, take-suc-set}
 use Rattle.octets.specs.Number.{Octets}
 use Rattle.octets.proofs.OctetLaws.{four_octets, append_octets, take_octets, drop_octets}
@@ -18,7 +18,6 @@ use Rattle.aes.proofs.Xor.{sum_lt, sum_zero}
 use Rattle.aes.proofs.Xtime.{mul_lt}
 use Rattle.aes.proofs.SBox.{sub_lt}
 use Rattle.aes.proofs.StateLaws.{by_four}
-use Rattle.aes.proofs.Filled.{Filled, more, before}
 
 power_lt : (n : ℕ) → power n < 256
 unfolding power

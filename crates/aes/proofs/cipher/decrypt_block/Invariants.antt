@@ -1,4 +1,4 @@
-use Prim.Native.Nat.{◌-◌, ◌≤◌}
+use Prim.Native.Nat.{◌-◌}
 use mathlib.Core.Path.{◌≡◌}
 use Rattle.aes.specs.Cipher.{inv_rounds}
 use Rattle.aes.proofs.cipher.decrypt_block.Given as goal
