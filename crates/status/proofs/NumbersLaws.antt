@@ -5,9 +5,10 @@ use mathlib.Core.Bool.{Bool, true, false, not, ◌&&◌, ◌||◌}
 use mathlib.Core.List.{List, [], ◌∷◌, ◌++◌, map}
 use native.Mathlib.Omega.{arith}
 use native.Mathlib.Numerals.{add-one}
+use Rattle.std.specs.List.{list_any}
 use lib.Dec.{eqb}
 use lib.ListN.{length, get_or, take, drop, set, drop_of_length-le}
-use lib.Seq.{take-suc, take-suc-set, drop-cons}
+use lib.Seq.{take-suc-set, drop-cons}
 use Rattle.status.specs.Limits.{count_bits, entry_bits, page_bits}
 use Rattle.status.specs.Numbers.{has, apart}
 use Rattle.status.specs.Page.{entries_in}
@@ -16,27 +17,11 @@ use Rattle.status.specs.declared.entry.Entry.{Entry}
 
 -- ---- a number among others
 
-or_end : (a b : Bool) → (a || (b || false)) ≡ (a || b)
-or_end true b = refl
-or_end false true = refl
-or_end false false = refl
-
-or_next : (a b c : Bool) → (a || (b || c)) ≡ ((a || b) || c)
-or_next true b c = refl
-or_next false b c = refl
-
-has_last : (n x : ℕ) (l : List ℕ) → has n (l ++ (x ∷ [])) ≡ (has n l || eqb x n)
+-- as the library's search says it
+pub has_any : (n : ℕ) (l : List ℕ) → list_any (λ x. eqb x n) l ≡ has n l
 unfolding has
-has_last n x [] = or_end false (eqb x n)
-has_last n x (y ∷ l) = ap (λ (b : Bool). eqb y n || b) (has_last n x l) ∙ or_next (eqb y n) (has n l) (eqb x n)
-
--- one more is looked at
-pub has_next : (n : ℕ) (l : List ℕ) (i : ℕ) → i < length l → has n (take (i + 1) l) ≡ (has n (take i l) || eqb (get_or l i 0) n)
-has_next n l i h = rw (add-one, take-suc l i 0 h) (has_last n (get_or l i 0) (take i l))
-
-pub has_none : (n : ℕ) → has n [] ≡ false
-unfolding has
-has_none n = refl
+has_any n [] = refl
+has_any n (x ∷ l) = ap (λ (b : Bool). eqb x n || b) (has_any n l)
 
 -- ---- numbers that differ
 

@@ -7,7 +7,7 @@ ghost use Rattle.status.specs.Page.{entries_in};
 
 use crate::bits::value;
 use crate::entry::Entry;
-use crate::limits::{COUNT_BITS, ENDPOINTS, ENTRY_BITS, PLACES, STATES};
+use crate::limits::{ENDPOINTS, ENTRY_BITS, PLACES, STATES, page_bits};
 use crate::numbers::differ;
 
 // The entry that bits stand for from bit `at` on.
@@ -30,15 +30,13 @@ fn places_rise(page: &[u8], list: &mut [u32]) -> bool
     ensures { (result ≡ rising 0 (entries_in page.now (length list.old))) × (result ≡ true → list.new ≡ map endpoint_of (entries_in page.now (length list.old))) }
 {
     let mut least = 0;
-    let mut at = COUNT_BITS;
-    for endpoint in list.iter_mut() {
-        let e = entry_at(page, at);
+    for (i, endpoint) in list.iter_mut().enumerate() {
+        let e = entry_at(page, page_bits(i));
         if e.place < least {
             return false;
         }
         least = e.place + 1;
         *endpoint = e.endpoint;
-        at += ENTRY_BITS;
     }
     true
 }

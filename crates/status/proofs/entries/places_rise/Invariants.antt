@@ -9,10 +9,9 @@ use Rattle.status.specs.Page.{entries_in}
 use Rattle.status.proofs.entries.places_rise.Given as goal
 
 -- the places looked at rise, and their endpoints stand in the list
-pub record Scanned (l : goal.Live-loop-endpoint) : Type 0 where
-  pub at : l.at ≡ page_bits l.endpoint-index
-  pub rises : rising 0 (entries_in l.page (l.endpoint-index-end)) ≡ rising l.least (entries_at (bit_at l.page) l.at (l.endpoint-index-end - l.endpoint-index))
-  pub stored : take l.endpoint-index l.list ≡ map endpoint_of (entries_in l.page l.endpoint-index)
+pub record Scanned (l : goal.Live-loop-i) : Type 0 where
+  pub rises : rising 0 (entries_in l.page (l.i-end)) ≡ rising l.least (entries_at (bit_at l.page) (page_bits l.i) (l.i-end - l.i))
+  pub stored : take l.i l.list ≡ map endpoint_of (entries_in l.page l.i)
 
-abbrev pub invariant-loop-endpoint : goal.invariant-loop-endpoint
-invariant-loop-endpoint l = Scanned l
+abbrev pub invariant-loop-i : goal.invariant-loop-i
+invariant-loop-i l = Scanned l
