@@ -1,14 +1,13 @@
 -- Where a part of a lent slice begins.
 use Prim.Native.Nat.{ℕ, ◌+◌, ◌-◌, ◌≤◌, ◌<◌, min}
-use mathlib.Core.Path.{◌≡◌, ap, subst, ◌∙◌}
+use mathlib.Core.Path.{◌≡◌, ap, ◌∙◌}
 use mathlib.Core.List.{List}
 use native.Mathlib.Omega.{arith}
 use lib.ListN.{length, drop, length-take, length-drop}
 use borrow.Author.Tests.{le-leb}
 use denote.Ref.{Bor}
 use Rattle.octets.specs.Part.{part, part_start}
-use Rattle.octets.specs.Lent.{BeginsAt, PartOf, PartIn}
-use Rattle.octets.specs.declared.parts.Bounds.{Bounds}
+use Rattle.octets.specs.Lent.{BeginsAt, PartOf}
 
 start_within : (s : List ℕ) (from to : ℕ) → from ≤ to → from ≤ length s → part_start s from to ≡ from
 unfolding part_start
@@ -28,7 +27,3 @@ module _ {s r : Bor (List ℕ)} {from to : ℕ} where
       let n = ap length p.octets ∙ length-take (to - from) (drop from s.now) in
       let m = length-drop from s.now in
       within_begins p (omega (arith, n, m)) (omega (arith, n, m))
-
--- bounds that a callee told
-pub same_bounds : {s r : Bor (List ℕ)} {b d : Bounds} → PartIn s b r → b ≡ d → PartIn s d r
-same_bounds {s} {r} p e = subst (λ (x : Bounds). PartIn s x r) e p
