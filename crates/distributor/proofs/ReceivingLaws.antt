@@ -15,7 +15,7 @@ use Rattle.message.specs.Read as Read
 use Rattle.message.specs.declared.framing.Kind.{Kind}
 use Rattle.message.specs.declared.bodies.Fields.{Fields}
 use Rattle.message.specs.declared.bodies.Fields.TheVariants.{MediaKeys, TunneledDtls, EndpointDisconnect}
-use Rattle.message.specs.declared.bodies.KeyLengths.{KeyLengths}
+use Rattle.message.specs.Keys.{KeyLengths}
 use Rattle.message.proofs.TunneledLaws.{tunneled_told, tunneled_frame, tunneled_content}
 use Rattle.rules.specs.Limits.{places}
 use Rattle.rules.specs.Keys.{keys_in}

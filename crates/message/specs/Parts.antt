@@ -10,8 +10,8 @@ use Rattle.message.specs.Message as Message
 use Rattle.message.specs.Read.{Answer, more_needed, refused, accepted, reading}
 use Rattle.message.specs.declared.bodies.Fields.{Fields}
 use Rattle.message.specs.declared.bodies.Fields.TheVariants.{SupportedProfiles, UnsupportedVersion, MediaKeys, TunneledDtls, EndpointDisconnect}
-use Rattle.message.specs.declared.bodies.KeyLengths.{KeyLengths}
-use Rattle.message.specs.declared.bounds.KeyBounds.{KeyBounds}
+use Rattle.message.specs.Keys.{KeyLengths}
+use Rattle.message.specs.Keys.{KeyBounds}
 use Rattle.message.specs.declared.bounds.FieldBounds.{FieldBounds}
 use Rattle.message.specs.declared.bounds.Field.{Field}
 

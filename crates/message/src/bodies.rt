@@ -4,19 +4,13 @@ ghost use Rattle.message.specs.Body as Spec;
 ghost use Rattle.message.specs.Walk as Walk;
 
 use crate::framing::Kind;
+use crate::keys::Keys;
 use crate::limits::WIDTH;
 use crate::walking;
 use octets::Refusal;
 
 // The length octets of MediaKeys.
-#[derive(Clone, Copy, Debug, PartialEq, Eq)]
-pub struct KeyLengths {
-    pub mki: u8,
-    pub client_key: u8,
-    pub server_key: u8,
-    pub client_salt: u8,
-    pub server_salt: u8,
-}
+pub type KeyLengths = Keys<u8>;
 
 // The numbers and lengths of a message's fields; `bounds_of` tells where they stand.
 #[derive(Clone, Copy, Debug, PartialEq, Eq)]

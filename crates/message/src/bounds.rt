@@ -7,20 +7,14 @@ ghost use Rattle.octets.specs.Lent.{PartIn};
 ghost use Rattle.message.specs.Limits.{header, most16};
 
 use crate::bodies::{Fields, KeyLengths};
+use crate::keys::Keys;
 use crate::limits::{BEFORE_DTLS, BEFORE_LIST, HEADER, WIDTH};
 use crate::reading::{Message, Refused, read_message};
 use octets::{Bounds, NOWHERE};
 
-#[derive(Clone, Copy)]
-pub struct KeyBounds {
-    pub mki: Bounds,
-    pub client_key: Bounds,
-    pub server_key: Bounds,
-    pub client_salt: Bounds,
-    pub server_salt: Bounds,
-}
+pub type KeyBounds = Keys<Bounds>;
 
-// The bounds of every field; those of one that is not there are 0 and 0.
+// The bounds of every field; those of one that is not there are 0 and 0, as `bounds_of` of specs/Parts.antt has them and C reads them.
 #[derive(Clone, Copy)]
 pub struct FieldBounds {
     pub body: Bounds,

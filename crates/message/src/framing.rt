@@ -109,7 +109,8 @@ pub fn version_frame(s: &[u8]) -> Result<Option<Frame>, Refused>
     version_of(s, octets::number16(s, 1))
 }
 
-// Lent octets as a message of any type.
+// Lent octets as a message of any type. A function of both framings would take the rest as a closure and be longer than the three
+// lines that they share.
 #[tactic(auto, unfolding(crate::specs::Frame::plain_frame))]
 pub fn plain_frame(s: &[u8]) -> Result<Option<Frame>, Refused>
     ensures { Spec.framing_of result ≡ Spec.plain_frame s.now }

@@ -6,6 +6,7 @@ mod bodies;
 mod bounds;
 mod example;
 mod framing;
+mod keys;
 pub mod limits;
 mod profiles;
 mod reading;
@@ -18,6 +19,7 @@ pub use bounds::{
 };
 pub use example::two_profiles;
 pub use framing::{Frame, Kind, plain_frame, read_frame, version_frame};
+pub use keys::Keys;
 pub use profiles::{good_list, in_list, is_profile, key_length};
 pub use reading::{Message, Refused, read_message};
 pub use tunneled::dtls_length;

@@ -15,7 +15,7 @@ use Rattle.message.specs.Write.{refused, fitting, identifier_fits, fields_fit, w
 use Rattle.message.proofs.AnswerLaws.{encode_length}
 use Rattle.writers.specs.Keys as Keys
 use Rattle.writers.specs.Steps.{answer_by, answer_for}
-use Rattle.writers.specs.declared.keys.KeyFields.{KeyFields}
+use Rattle.writers.specs.Keys.{KeyFields}
 
 module _ (m : Message) (room : ℕ) where
   by_identifier : (b : Bool) (n : ℕ) → (b ≡ true → length (encode_body m) ≡ n)

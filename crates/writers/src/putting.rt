@@ -1,4 +1,6 @@
 // The octets of messages, piece behind piece, in an output that has room for them.
+// Output and offset stay two parameters, as in `octets`, whose writers serve every crate: a struct of both would be taken apart
+// at each call of these.
 ghost use Rattle.std.specs.Prelude.{◌≡◌, ◌∷◌, ◌++◌, ◌-◌, ◌≤◌, length};
 ghost use Rattle.octets.specs.Number.{octets16};
 ghost use Rattle.octets.specs.Write.{over};
@@ -22,7 +24,8 @@ fn put_header(kind: Kind, count: usize, out: &mut [u8]) -> usize
     octets::put_number16(out, at, (count - HEADER) as u16)
 }
 
-// A field behind its length octet, where there is room.
+// A field behind its length octet, where there is room. This and the next are two lines each: for one function of both, its
+// seven calls would each cast the length and prove that it fits.
 fn put_vector8(field: &[u8], at: usize, out: &mut [u8]) -> usize
     requires { length field.now ≤ most8 }
     ensures { Puts out.old at (M.vector8 field.now) result out.new }

@@ -8,7 +8,7 @@ ghost use Rattle.writers.specs.Outcome.{answer_of};
 ghost use Rattle.writers.specs.Steps as Steps;
 
 use crate::keys::KeyFields;
-use crate::putting;
+use crate::{keys, putting};
 use message::limits::{BODY_BEFORE_DTLS, BODY_LIMIT, HEADER, MOST_16, WIDTH};
 use octets::Refusal;
 
@@ -61,7 +61,7 @@ pub fn write_media_keys(
 ) -> Result<usize, Refusal>
     ensures { Writes (Keys.media_keys identifier.now profile keys.entry) out.old out.new (answer_of result) }
 {
-    let count = fit(identifier.len(), keys.body_length(), out.len())?;
+    let count = fit(identifier.len(), keys::body_length(keys), out.len())?;
     putting::media_keys(identifier, profile, keys, count, out);
     Ok(count)
 }
