@@ -46,7 +46,8 @@ fn neighbour_of(highest: u16, sequence: u16) -> Neighbour
     }
 }
 
-// The ROC tried, modulo 2^32.
+// The ROC tried, modulo 2^32: it wraps by a rule of the project (docs/DECISIONS.md, "ROC neighbours"), so that no checked_sub
+// or checked_add tells the refusals.
 fn roc_tried(roc: u32, neighbour: Neighbour) -> u32
     ensures { result ≡ roc_tried roc neighbour }
 {
