@@ -13,78 +13,43 @@ use lib.Bits.{bit_xor, bit_or, xor_self, or_add_and, and_le_r, or_zero_r}
 use lib.Dec.{eqb, ltb, leb}
 use lib.ListN.{length, get_or, set, take, drop, replicate, length-append, length-drop, take-append-drop, get_or-append, drop_of_length-le}
 use lib.Seq.{length-take-le, drop-drop, get_or-take, get_or-drop, get_or-append-add, take-append-add, drop-append-add, take_all, take-suc, drop-append-le}
+use borrow.Rule.Slice.PartMut.{put_mid}
+use Rattle.std.proofs.lemmas.List.{take_at, drop_at, drop-replicate}
 use Rattle.aes.specs.Field.{xor}
 use Rattle.aes.proofs.Xor.{sum_zero, sum_twice}
 use Rattle.octets.specs.Write.{over}
-use Rattle.keywrap.specs.Inner.{offset_of, masked}
-use Rattle.keywrap.specs.KeyWrap.{register_count, block, register_at, replaced, xor_lists, octets64, xor_count, unwrap_step, unwrap_steps}
+use Rattle.keywrap.specs.Inner.{masked}
+use Rattle.keywrap.specs.KeyWrap.{register_count, block, register_at, replaced, xor_lists, octets64, xor_count, wrap_step, wrap_steps, unwrap_step, unwrap_steps}
 use Rattle.keywrap.specs.Limits.{plaintext_most, ciphertext_most}
 use Rattle.keywrap.specs.Padding.{aiv, padding, initial_registers, zeros, constant_right}
 use Rattle.keywrap.proofs.StepLaws.{register_first, register_last}
 
--- ---- A | R[i]
+-- ---- A | R[i], put together from its halves
 
-module _ (x : List ℕ) (i : ℕ) (first : 1 ≤ i) (last : 8 * i + 8 ≤ length x) where
-  a_long : length (take 8 x) ≡ 8
-  a_long = length-take-le 8 x (omega arith)
-
-  pub block_long : length (block i x) ≡ 16
-  unfolding block
-  block_long =
-      length-append (take 8 x) (take 8 (drop (8 * i) x))
-      ∙ (let a : length (take 8 x) ≡ 8 = a_long in
-      let d : length (drop (8 * i) x) ≡ length x - 8 * i = length-drop (8 * i) x in
-      let r : length (take 8 (drop (8 * i) x)) ≡ 8 = length-take-le 8 (drop (8 * i) x) (omega arith) in
-      omega arith)
-
-  pub block_at : (k : ℕ) → k < 16 → get_or x (offset_of i k) 0 ≡ get_or (block i x) k 0
-  unfolding block offset_of
-  block_at k h = go (ltb k 8) refl
-    where
-      go : (b : Bool) → ltb k 8 ≡ b → get_or x (cond b k (8 * i + k - 8)) 0 ≡ get_or (take 8 x ++ take 8 (drop (8 * i) x)) k 0
-      go true e =
-          let l : k < 8 = ltb-true k 8 e in
-          let a : length (take 8 x) ≡ 8 = a_long in
-          sym (get_or-append (take 8 x) (take 8 (drop (8 * i) x)) 0 k (omega arith) ∙ get_or-take 8 x k 0 l)
-      go false e =
-          let g : 8 ≤ k = ltb-false k 8 e in
-          let a : length (take 8 x) ≡ 8 = a_long in
-          let n : length (take 8 x) + (k - 8) ≡ k = omega arith in
-          let p : 8 * i + (k - 8) ≡ 8 * i + k - 8 = omega arith in
-          sym (ap (λ (j : ℕ). get_or (take 8 x ++ take 8 (drop (8 * i) x)) j 0) (sym n)
-          ∙ get_or-append-add (take 8 x) (take 8 (drop (8 * i) x)) (k - 8) 0
-          ∙ get_or-take 8 (drop (8 * i) x) (k - 8) 0 (omega arith) ∙ get_or-drop (8 * i) x (k - 8) 0
-          ∙ ap (λ (j : ℕ). get_or x j 0) p)
+pub both_halves : (p q l : List ℕ) → length p ≡ 8 → length q ≡ 8 → length l ≡ 8 → put_mid 8 8 (p ++ l) q ≡ p ++ q
+both_halves p q l hp hq hl =
+    rw (take_at p l 8 hp, drop_at p l 8 hp) (ap (λ (y : List ℕ). p ++ (q ++ y)) (drop_of_length-le l {i = 8} (omega arith)) ∙ ap (λ (y : List ℕ). p ++ y) (append-nil q))
 
 -- ---- both halves of a block written over A and R[i]
 
-regroup : (p t q s : List ℕ) → p ++ t ++ q ++ s ≡ p ++ (t ++ (q ++ s))
-regroup p t q s = append_assoc (p ++ t) q s ∙ append_assoc p t (q ++ s)
-
-pub put_parts : (p q x : List ℕ) (i : ℕ) → length p ≡ 8 → length q ≡ 8 → 1 ≤ i
-    → over (over x 0 p) (8 * i) q ≡ p ++ (take (8 * (i - 1)) (drop 8 x) ++ (q ++ drop (8 * i + 8) x))
-put_parts p q x i hp hq one =
-    let z : 0 + length p ≡ 8 = omega arith in
+put_parts : (p q x : List ℕ) (i : ℕ) → length p ≡ 8 → 1 ≤ i
+    → put_mid (8 * i) 8 (p ++ drop 8 x) q ≡ p ++ (take (8 * (i - 1)) (drop 8 x) ++ (q ++ drop (8 * i + 8) x))
+put_parts p q x i hp one =
     let v : 8 * i ≡ length p + 8 * (i - 1) = omega arith in
-    let u : 8 * i + length q ≡ length p + 8 * i = omega arith in
-    let t : 8 + 8 * i ≡ 8 * i + 8 = omega arith in
-    rw z
-    (ap₂ (λ (a b : List ℕ). a ++ q ++ b)
-    (ap (λ (k : ℕ). take k (p ++ drop 8 x)) v ∙ take-append-add p (drop 8 x) (8 * (i - 1)))
-    (ap (λ (k : ℕ). drop k (p ++ drop 8 x)) u ∙ drop-append-add p (drop 8 x) (8 * i) ∙ drop-drop (8 * i) 8 x ∙ ap (λ (k : ℕ). drop k x) t)
-    ∙ regroup p (take (8 * (i - 1)) (drop 8 x)) q (drop (8 * i + 8) x))
+    let u : 8 + (8 * (i - 1) + 8) ≡ 8 * i + 8 = omega arith in
+    rw (
+      v,
+      take-append-add p (drop 8 x) (8 * (i - 1)),
+      drop-append-add p (drop 8 x) (8 * (i - 1)),
+      drop-drop 8 (8 * (i - 1)) (drop 8 x),
+      drop-drop (8 * (i - 1) + 8) 8 x,
+      u,
+      ← v,
+    ) (append_assoc p (take (8 * (i - 1)) (drop 8 x)) (q ++ drop (8 * i + 8) x))
 
-pub put_both : (b x : List ℕ) (i : ℕ) → length b ≡ 16 → 1 ≤ i → over (over x 0 (take 8 b)) (8 * i) (drop 8 b) ≡ replaced i b x
+pub put_both : (b x : List ℕ) (i : ℕ) → length b ≡ 16 → 1 ≤ i → put_mid (8 * i) 8 (take 8 b ++ drop 8 x) (drop 8 b) ≡ replaced i b x
 unfolding replaced
-put_both b x i l one = put_parts (take 8 b) (drop 8 b) x i (length-take-le 8 b (omega arith)) (length-drop 8 b ∙ omega arith) one
-
-pub place_lt : (i k n : ℕ) → 1 ≤ i → k < 16 → 8 * i + 8 ≤ n → offset_of i k < n
-unfolding offset_of
-place_lt i k n one h l = go (ltb k 8) refl
-  where
-    go : (b : Bool) → ltb k 8 ≡ b → cond b k (8 * i + k - 8) < n
-    go true e = let g : k < 8 = ltb-true k 8 e in omega arith
-    go false e = let g : 8 ≤ k = ltb-false k 8 e in omega arith
+put_both b x i l one = put_parts (take 8 b) (drop 8 b) x i (length-take-le 8 b (omega arith)) one
 
 lists_none : (l : List ℕ) → xor_lists l [] ≡ l
 unfolding xor_lists
@@ -134,30 +99,14 @@ zero_at zero k = refl
 zero_at (suc n) zero = refl
 zero_at (suc n) (suc k) = zero_at n k
 
-module _ (p : List ℕ) (i : ℕ) where
-  pub head_at : length p ≤ plaintext_most → i < 8 → get_or (0xa6 ∷ 0x59 ∷ 0x59 ∷ 0xa6 ∷ 0 ∷ 0 ∷ 0 ∷ length p ∷ []) i 0 ≡ get_or (initial_registers p) i 0
-  unfolding initial_registers
-  head_at f h =
-      ap (λ (l : List ℕ). get_or l i 0) (aiv_short (length p) f)
-      ∙ sym (get_or-append (aiv (length p)) (p ++ replicate (padding (length p)) 0) 0 i (rw (aiv_long (length p)) h))
-
-  tail_at : 8 ≤ i → get_or (initial_registers p) i 0 ≡ get_or (p ++ replicate (padding (length p)) 0) (i - 8) 0
-  unfolding initial_registers
-  tail_at h =
-      let l : length (aiv (length p)) ≡ 8 = aiv_long (length p) in
-      let n : length (aiv (length p)) + (i - 8) ≡ i = omega arith in
-      ap (λ (j : ℕ). get_or (aiv (length p) ++ (p ++ replicate (padding (length p)) 0)) j 0) (sym n)
-      ∙ get_or-append-add (aiv (length p)) (p ++ replicate (padding (length p)) 0) (i - 8) 0
-
-  pub plaintext_at : 8 ≤ i → i - 8 < length p → get_or p (i - 8) 0 ≡ get_or (initial_registers p) i 0
-  plaintext_at h l = sym (tail_at h ∙ get_or-append p (replicate (padding (length p)) 0) 0 (i - 8) l)
-
-  pub behind_at : 8 ≤ i → length p ≤ i - 8 → ◌≡◌ {A = ℕ} 0 (get_or (initial_registers p) i 0)
-  behind_at h l =
-      let n : length p + (i - 8 - length p) ≡ i - 8 = omega arith in
-      sym (tail_at h ∙ ap (λ (j : ℕ). get_or (p ++ replicate (padding (length p)) 0) j 0) (sym n)
-      ∙ get_or-append-add p (replicate (padding (length p)) 0) (i - 8 - length p) 0
-      ∙ zero_at (padding (length p)) (i - 8 - length p))
+pub put_frame : (p : List ℕ) (n : ℕ) → length p ≤ plaintext_most → n ≡ 8 + (length p + padding (length p))
+    → put_mid 8 (length p) ((0xa6 ∷ 0x59 ∷ 0x59 ∷ 0xa6 ∷ 0 ∷ 0 ∷ 0 ∷ length p ∷ []) ++ drop 8 (replicate n 0)) p ≡ initial_registers p
+unfolding initial_registers
+put_frame p n h e =
+    let k : n - 8 - length p ≡ padding (length p) = omega arith in
+    ap (λ (y : List ℕ). (0xa6 ∷ 0x59 ∷ 0x59 ∷ 0xa6 ∷ 0 ∷ 0 ∷ 0 ∷ length p ∷ []) ++ (p ++ y))
+    (ap (drop (length p)) (drop-replicate {X = ℕ} 8 n 0) ∙ drop-replicate {X = ℕ} (length p) (n - 8) 0 ∙ ap (λ (j : ℕ). replicate {A = ℕ} j 0) k)
+    ∙ ap (λ (a : List ℕ). a ++ (p ++ replicate (padding (length p)) 0)) (aiv_short (length p) h)
 
 -- ---- the register of a step is there
 
@@ -168,15 +117,12 @@ in_reach r t x e l m =
     let b = register_last t x l in
     (omega arith, omega arith, omega arith)
 
--- ---- half a block
+-- ---- a step more, and a step less
 
-pub half_at : (b : List ℕ) (from k : ℕ) → k < 8 → get_or b (from + k) 0 ≡ get_or (take 8 (drop from b)) k 0
-half_at b from k h = sym (get_or-take 8 (drop from b) k 0 h ∙ get_or-drop from b k 0)
-
-pub half_long : (b : List ℕ) (from : ℕ) → length b ≡ 16 → from ≤ 8 → length (take 8 (drop from b)) ≡ 8
-half_long b from l h = length-take-le 8 (drop from b) (let d : length (drop from b) ≡ length b - from = length-drop from b in omega arith)
-
--- ---- steps back
+pub wrap_more : (w : List ℕ) (t : ℕ) (x : List ℕ) → 1 ≤ t → wrap_step w t (wrap_steps w (t - 1) x) ≡ wrap_steps w t x
+unfolding wrap_steps
+wrap_more w zero x h = absurd (omega arith)
+wrap_more w (suc t) x h = let e : suc t - 1 ≡ t = omega arith in rw e
 
 pub unwrap_less : (w : List ℕ) (t : ℕ) (x : List ℕ) → 0 < t → unwrap_steps w t x ≡ unwrap_steps w (t - 1) (unwrap_step w t x)
 unfolding unwrap_steps

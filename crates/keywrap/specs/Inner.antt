@@ -3,10 +3,6 @@ use Rattle.std.specs.Prelude.{ℕ, ◌+◌, ◌*◌, ◌-◌, Bool, cond, not, L
 use Rattle.keywrap.specs.Padding.{length_fits, verified, plaintext_in}
 use Rattle.keywrap.specs.Calls.{Answer, refused, fitting}
 
--- where octet k of A | R[i] stands in the registers
-unfoldable pub offset_of : (i k : ℕ) → ℕ
-offset_of i k = cond (ltb k 8) k (8 * i + k - 8)
-
 -- the octet where it counts, else 0
 unfoldable pub masked : (kept : Bool) (a : ℕ) → ℕ
 masked kept a = cond kept a 0

@@ -50,15 +50,14 @@ fn masked(kept: bool, a: u8) -> u8
 }
 
 // No fault found before, and only octets 0 from an offset on. Every octet is read, wherever the offset is and whatever was
-// found: what was found goes through the loop, so that the compiler has one test to make, and makes it last.
+// found: what was found goes through the loop, so that the compiler has one test to make, and makes it last. Not by `all` or `any`,
+// which end at the first fault.
 fn zeros_from(x: &[u8], from: usize, found: u8) -> bool
     ensures { result ≡ (eqb found 0 && Spec.zeros (drop from x.now)) }
 {
     let mut bad = found;
-    let mut i = 0;
-    while i < x.len() {
-        bad = bad | masked(from <= i, x[i]);
-        i += 1;
+    for (i, a) in x.iter().enumerate() {
+        bad = bad | masked(from <= i, *a);
     }
     bad == 0
 }

@@ -11,11 +11,7 @@ use crate::process::{unwrap_steps, wrap_steps};
 pub(crate) fn clear(x: &mut [u8], at: usize) -> u8
     ensures { (result ≡ 0) × (x.new ≡ replicate (length x.old) 0) }
 {
-    let mut i = 0;
-    while i < x.len() {
-        x[i] = 0;
-        i += 1;
-    }
+    x.fill(0);
     octets::octet(x, at)
 }
 

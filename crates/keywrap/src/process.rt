@@ -52,9 +52,7 @@ pub(crate) fn wrap_steps(w: &[u8; 176], steps: usize, x: &mut [u8])
     requires { (steps < 256) × (16 ≤ length x.old) × (length x.old ≤ ciphertext_most) }
     ensures { x.new ≡ Spec.wrap_steps w.now steps x.old }
 {
-    let mut t = 0;
-    while t < steps {
-        t += 1;
+    for t in 1..steps + 1 {
         wrap_step(w, t, x);
     }
 }
@@ -78,9 +76,7 @@ pub(crate) fn unwrap_steps(w: &[u8; 176], steps: usize, x: &mut [u8])
     requires { (steps < 256) × (16 ≤ length x.old) × (length x.old ≤ ciphertext_most) }
     ensures { x.new ≡ Spec.unwrap_steps w.now steps x.old }
 {
-    let mut t = steps;
-    while 0 < t {
+    for t in (1..steps + 1).rev() {
         unwrap_step(w, t, x);
-        t -= 1;
     }
 }
