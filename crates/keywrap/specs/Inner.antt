@@ -1,5 +1,5 @@
 -- What inner functions of the code compute, and the two calls that are for `vectors` alone: no part of the RFCs or of document 02.
-use Rattle.std.specs.Prelude.{ℕ, ◌+◌, ◌*◌, ◌-◌, Bool, cond, not, List, ltb, length}
+use Rattle.std.specs.Prelude.{ℕ, Bool, cond, not, List, length}
 use Rattle.keywrap.specs.Padding.{length_fits, verified, plaintext_in}
 use Rattle.keywrap.specs.Calls.{Answer, refused, fitting}
 

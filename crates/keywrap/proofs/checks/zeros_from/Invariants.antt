@@ -1,8 +1,7 @@
-use Prim.Native.Nat.{◌≤◌}
 use mathlib.Core.Path.{◌≡◌}
 use mathlib.Core.Bool.{◌&&◌}
 use lib.Dec.{eqb}
-use lib.ListN.{length, take, drop}
+use lib.ListN.{take, drop}
 use Rattle.keywrap.specs.Padding.{zeros}
 use Rattle.keywrap.proofs.checks.zeros_from.Given as goal
 
