@@ -13,9 +13,8 @@ ghost use Rattle.distributor.specs.Outcomes.{Pages};
 ghost use Rattle.distributor.specs.Packing.{Puts, Room, Moved, shown_to};
 
 use crate::packing::{Packing, finish, put};
-use crate::sending::Sent;
 use block::{BLOCK, PLACES, is_up, row_at};
-use octets::refusal;
+use octets::Refusal;
 use rows::endpoint_of;
 use rows::layout::STATE;
 use status::{COUNT_BITS, ENDPOINT_BITS, ENTRY_BITS, PLACE_BITS, STATE_BITS, STATES};
@@ -106,16 +105,14 @@ fn put_places(state: &[u8; BLOCK], shown: usize, out: &mut [u8], start: Packing)
 
 // Writes the status page; refusal 13, whatever the tunnel. The block is lent to be read: of its rows the states and the
 // endpoints are.
-pub fn write_page(state: &[u8; BLOCK], out: &mut [u8]) -> Sent
+pub fn write_page(state: &[u8; BLOCK], out: &mut [u8]) -> Result<usize, Refusal>
     ensures { Pages (Spec.answer state.now (Call.write_page (length out.old))) out.old out.new result }
 {
     let shown = shown_rows(state);
     let count = live_count(state, shown);
     let octets = page_octets(count);
     if out.len() < octets {
-        return Sent::Refused {
-            number: refusal::NO_ROOM,
-        };
+        return Err(Refusal::NoRoom);
     }
     let none = Packing {
         at: 0,
@@ -125,5 +122,5 @@ pub fn write_page(state: &[u8; BLOCK], out: &mut [u8]) -> Sent
     let start = put(out, none, COUNT_BITS, count as u64);
     let w = put_places(state, shown, out, start);
     finish(out, w, octets);
-    Sent::Written { count: octets }
+    Ok(octets)
 }

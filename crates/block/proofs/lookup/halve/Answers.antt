@@ -17,7 +17,7 @@ again s e x lo left looked seen next h i q r =
     rw (r, q) (i ∙ ap (λ (j : ℕ). halved j (index_endpoint s) e lo left) k ∙ halved_more (index_endpoint s) e lo left (rounds - 1 - (looked + 1)))
 
 pub loop-looked-init : goal.loop-looked-init
-loop-looked-init c = (omega arith, omega arith, omega arith, refl)
+loop-looked-init c = (omega arith, omega arith, refl)
 
 pub loop-looked-preserved : goal.loop-looked-preserved
 loop-looked-preserved c =
@@ -26,15 +26,14 @@ loop-looked-preserved c =
     let w = nearer_within c.endpoint_at.result a.endpoint l.lo (l.lo + l.left / 2) (omega arith) in (
       omega (arith, c.nearer-lo.ensures, w, l.invariant.0),
       omega (arith, l.invariant.1),
-      omega (arith, c.loop-looked-test.true),
-      again _ a.endpoint _ l.lo l.left l.looked c.endpoint_at.result c.nearer-lo.result
-          c.loop-looked-test.true l.invariant.3 c.endpoint_at.ensures c.nearer-lo.ensures,
+      again _ a.endpoint _ l.lo l.left l._looked c.endpoint_at.result c.nearer-lo.result
+          c.loop-looked-test.true l.invariant.2 c.endpoint_at.ensures c.nearer-lo.ensures,
     )
 
 pub returns : goal.returns
 returns c =
     let l = c.loop-looked in
     let a = c.args in
-    let e : l.looked ≡ rounds - 1 = omega (arith, c.loop-looked-test.false, l.invariant.2) in
-    let z : rounds - 1 - l.looked ≡ 0 = omega arith in
-    (sym (l.invariant.3 ∙ ap (λ (j : ℕ). halved j (index_endpoint a.state.now) a.endpoint l.lo l.left) z ∙ halved_none _ a.endpoint l.lo l.left), e)
+    let e : l._looked ≡ rounds - 1 = omega arith in
+    let z : rounds - 1 - l._looked ≡ 0 = omega arith in
+    (sym (l.invariant.2 ∙ ap (λ (j : ℕ). halved j (index_endpoint a.state.now) a.endpoint l.lo l.left) z ∙ halved_none _ a.endpoint l.lo l.left), refl)

@@ -7,8 +7,5 @@ use Rattle.block.proofs.lookup.halve.Given as goal
 
 abbrev pub invariant-loop-looked : goal.invariant-loop-looked
 invariant-loop-looked l =
-    (l.lo + l.left ≤ places) × (0 < l.left) × (l.looked ≤ rounds - 1)
-    × (halved (rounds - 1) (index_endpoint l.state) l.endpoint 0 l.n ≡ halved (rounds - 1 - l.looked) (index_endpoint l.state) l.endpoint l.lo l.left)
-
-abbrev pub decreases-loop-looked : goal.decreases-loop-looked
-decreases-loop-looked l = rounds - 1 - l.looked
+    (l.lo + l.left ≤ places) × (0 < l.left)
+    × (halved (rounds - 1) (index_endpoint l.state) l.endpoint 0 l.n ≡ halved (rounds - 1 - l._looked) (index_endpoint l.state) l.endpoint l.lo l.left)

@@ -1,0 +1,20 @@
+// The association that a call is about: its place, or refusal 6.
+ghost use Rattle.rules.specs.Table as Spec;
+ghost use Rattle.distributor.specs.Outcomes.{Found};
+
+use block::{BLOCK, place_of_endpoint, place_of_identifier};
+use octets::Refusal;
+
+pub(crate) fn place_named(state: &[u8; BLOCK], identifier: &[u8]) -> Result<usize, Refusal>
+    ensures { Found (Spec.place_of_identifier state.now identifier.now) result }
+{
+    place_of_identifier(state, identifier).ok_or(Refusal::NoAssociation)
+}
+
+pub(crate) fn place_served(state: &[u8; BLOCK], endpoint: u32) -> Result<usize, Refusal>
+    ensures { Found (Spec.place_of_endpoint state.now endpoint) result }
+{
+    place_of_endpoint(state, endpoint)
+        .place
+        .ok_or(Refusal::NoAssociation)
+}
