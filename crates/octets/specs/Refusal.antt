@@ -1,5 +1,6 @@
 -- The refusals' numbers, in the order of documents 01 and 02.
-use Rattle.std.specs.Prelude.{ℕ}
+use Rattle.std.specs.Prelude.{ℕ, List, ◌++◌, codes}
+use Rattle.std.specs.Fmt.{decimal}
 use Rattle.octets.specs.declared.refusal.Refusal.{Refusal}
 use Rattle.octets.specs.declared.refusal.Refusal.TheVariants.{TunnelDown, Oversize, UnlistedType, WrongDirection, BadBody, NoAssociation, ProfileNotOffered, KeyLength, MkiOrSaltLength, TableFull, IdentifierLive, EndpointLive, NoRoom, NotDtls, PacketTooLong, BadProfileList, TunnelUp, NoTag, EmptyPacket, IdentifierLength, UnknownSpi, BadCiphertext, BadPlaintext, WrongSsrc, OldEpoch, SourcesFull, SpiPresent, SetsFull, NotAPage, VersionNoted, NoSuchIndex, KeySpent, PlaintextLength, EktKeyOrSaltLength, NoProfile, ProfilesFirst}
 
@@ -40,3 +41,7 @@ number_of PlaintextLength = 33
 number_of EktKeyOrSaltLength = 34
 number_of NoProfile = 35
 number_of ProfilesFirst = 36
+
+-- as it is printed
+abbrev pub text_of : Refusal → List ℕ
+text_of refusal = codes "refusal " ++ decimal (number_of refusal)
