@@ -31,11 +31,11 @@ module _ (l : List ℕ) (i : ℕ) (h : i < length l) where
   apart_here = rw (add-one, drop-cons l i 0 h)
 
   -- a number that comes again, and one that does not
-  pub apart_not : has (get_or l i 0) (drop (i + 1) l) ≡ true → apart (drop i l) ≡ false
-  apart_not e = apart_here ∙ rw e
+  pub apart_not : list_any (λ x. eqb x (get_or l i 0)) (drop (i + 1) l) ≡ true → apart (drop i l) ≡ false
+  apart_not e = apart_here ∙ rw (sym (has_any (get_or l i 0) (drop (i + 1) l)) ∙ e)
 
-  pub apart_next : has (get_or l i 0) (drop (i + 1) l) ≡ false → apart (drop i l) ≡ apart (drop (i + 1) l)
-  apart_next e = apart_here ∙ rw e
+  pub apart_next : list_any (λ x. eqb x (get_or l i 0)) (drop (i + 1) l) ≡ false → apart (drop i l) ≡ apart (drop (i + 1) l)
+  apart_next e = apart_here ∙ rw (sym (has_any (get_or l i 0) (drop (i + 1) l)) ∙ e)
 
 pub apart_none : (l : List ℕ) (i : ℕ) → length l ≤ i → apart (drop i l) ≡ true
 unfolding apart

@@ -17,6 +17,7 @@ fn word(s: &[u8], at: usize) -> u64
 }
 
 // The number that so many bits stand for from bit `at` on.
+#[tactic(auto, using(crate::proofs::WordLaws::read_field))]
 pub(crate) fn value(s: &[u8], at: usize, width: usize) -> u64
     requires { (at ≤ page_bits places) × (0 < width) × (width ≤ field_bits) }
     ensures { result ≡ value_of (bit_at s.now) at width }

@@ -25,6 +25,7 @@ pub(crate) fn entry_at(page: &[u8], at: usize) -> Entry
 }
 
 // Whether the places of a page's entries rise, of as many as the list is long. If so, their endpoints stand in the list.
+#[tactic(auto, using(crate::proofs::ScanLaws::rising_not, crate::proofs::ScanLaws::rising_next, crate::proofs::ScanLaws::place_below_lem, crate::proofs::NumbersLaws::endpoints_next, crate::proofs::BitLaws::binary_at))]
 fn places_rise(page: &[u8], list: &mut [u32]) -> bool
     requires { length list.old ≤ places }
     ensures { (result ≡ rising 0 (entries_in page.now (length list.old))) × (result ≡ true → list.new ≡ map endpoint_of (entries_in page.now (length list.old))) }

@@ -19,6 +19,7 @@ fn count_of(page: &[u8]) -> usize
 }
 
 // Whether octets are as many as for a page with so many entries, and filled with zero bits.
+#[tactic(auto, using(crate::proofs::PageLaws::laid_tests))]
 fn laid_out(page: &[u8], count: usize) -> bool
     requires { (count ≡ count_of page.now) × (count ≤ places) }
     ensures { result ≡ same (layout (decoded page.now)) page.now }
