@@ -8,17 +8,16 @@ mod example;
 mod index;
 mod keys;
 mod messages;
-mod outcomes;
 mod outputs;
 mod pages;
 mod profiles;
 mod reading;
+mod receiving;
 mod records;
 mod sending;
 mod sorting;
 mod table;
 mod tags;
-mod writes;
 mod writing;
 
 use std::io;
@@ -27,5 +26,5 @@ use std::io::Read;
 fn main(rt: HostRuntime) -> io::Result<()> {
     let mut text = Vec::new(rt.alloc());
     rt.stdin().read_to_end(&mut text)?;
-    cases::run(&mut rt.stdout(), &text)
+    cases::run(rt.alloc(), &mut rt.stdout(), &text)
 }
