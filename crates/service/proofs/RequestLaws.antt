@@ -1,7 +1,8 @@
 -- Which request a frame stands for, by the tests on its way.
 use Prim.Native.Nat.{ℕ, ◌-◌, ◌≤◌, ◌<◌}
 use mathlib.Core.Path.{◌≡◌, refl, sym, ap, ap₂, subst, ◌∙◌}
-use mathlib.Core.List.{List}
+use mathlib.Core.List.{List, ◌∷◌}
+use native.Mathlib.Omega.{arith}
 use borrow.Author.Tests.{lt-ltb, le-ltb, eq-eqb, ne_eqb}
 use lib.Dec.{ltb, eqb}
 use lib.ListN.{length, take, drop}
@@ -75,10 +76,9 @@ module _ (frame : List ℕ) where
   unfolding request_of
   frame_empty h e = rw (le-ltb _ _ h, eq-eqb _ _ e)
 
-  pub frame_request : length frame ≤ frame_limit → (length frame ≡ 0 → ⊥) → {kind : Kind} {body : List ℕ} → kind ≡ kind_of (octet_at frame 0)
-      → body ≡ take (length frame - 1) (drop 1 frame) → request_by kind body ≡ request_of frame
+  pub frame_request : length frame ≤ frame_limit → {first : ℕ} {kind : Kind} {body : List ℕ} → frame ≡ first ∷ body → kind ≡ kind_of first → request_by kind body ≡ request_of frame
   unfolding request_of
-  frame_request h n a b = rw (le-ltb _ _ h, ne_eqb _ _ n) (ap₂ request_by a (b ∙ tail frame 1))
+  frame_request h {first} {kind} {body} e a = rw (le-ltb _ _ h, e, ne_eqb (length (first ∷ body)) 0 (λ z. omega (arith, z))) (ap (λ (k : Kind). request_by k body) a)
 
 -- ---- a call that answered and left a block
 
@@ -104,7 +104,6 @@ module _ (s body : List ℕ) where
   unfolding step
   page_keeps = by_choice (λ q. s ≡ block_after s q) (eqb (length body) 0) (call (Call.write_page room)) misshapen (λ h. refl) (λ h. refl)
 
--- by the kind that was told
-pub by_kind : (body : List ℕ) (k : Kind) {j : Kind} → j ≡ k → (s next l : List ℕ) {x : List ℕ} {to : ℕ}
-    → Serves (request_by k body) s next l x to → Serves (request_by j body) s next l x to
-by_kind body k {j} e s next l {x} {to} o = same_serving (request_by k body) s next l (ap (λ (i : Kind). request_by i body) (sym e)) o
+pub ruleset keeps = (packet_keeps, look_keeps, page_keeps)
+
+pub ruleset frames = (same_serving, frame_long, frame_empty, frame_request)

@@ -56,17 +56,6 @@ module _ (s octets : List ℕ) where
   unfolding octets_answer
   of_octets = by_choice OfTunnel (up s) (read_answer s octets (receiving octets)) (refused 1 0) (λ h. of_reading (receiving octets)) (λ h. tt)
 
-  -- a refusal is one
-  not_none : (b : Bool) (a : Answer) → cond b none (some a) ≡ some (octets_answer s octets) → a ≡ octets_answer s octets
-  not_none true a e = absurd (none-ne-some (octets_answer s octets) e)
-  not_none false a e = some-injective a (octets_answer s octets) e
-
-  pub refused_received : (number taken : ℕ) → received_of (Received.Refused number taken) ≡ some (octets_answer s octets) → refused number taken ≡ octets_answer s octets
-  refused_received number taken e = not_none (eqb number 5) (refused number taken) e
-
-  pub received : (a : Answer) → some a ≡ some (octets_answer s octets) → a ≡ octets_answer s octets
-  received a e = some-injective a (octets_answer s octets) e
-
   -- a delivery's octets fit behind the head, the octets taken and the endpoint
   pub delivery_fits : (endpoint : ℕ) (dtls : Bounds) (taken : ℕ) → delivery endpoint dtls taken ≡ octets_answer s octets → length octets ≤ room
       → 9 + length (part_in octets dtls) ≤ answer_limit
@@ -76,10 +65,3 @@ module _ (s octets : List ℕ) where
       let a = length-take (dtls.end - dtls.start) (drop dtls.start octets) in
       let b = length-drop dtls.start octets in
       omega arith
-
--- the octets delivered, as a part of those lent
-pub same_octets : (l : List ℕ) (endpoint taken : ℕ) (d : List ℕ) {e x : List ℕ} {to : ℕ} → d ≡ e
-    → Replies (frame_of ((7 ∷ octets16 taken) ++ octets_of_32 endpoint ++ d)) l x to
-    → Replies (frame_of ((7 ∷ octets16 taken) ++ octets_of_32 endpoint ++ e)) l x to
-same_octets l endpoint taken d {e} {x} {to} h o =
-    subst (λ (f : List ℕ). Replies (frame_of ((7 ∷ octets16 taken) ++ octets_of_32 endpoint ++ f)) l x to) h o

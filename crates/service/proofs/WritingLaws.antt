@@ -2,10 +2,10 @@
 use Prim.Native.Nat.{ℕ, ◌+◌, ◌≤◌}
 use mathlib.Core.Path.{◌≡◌, refl, ap, subst, ◌∙◌}
 use mathlib.Core.List.{List, []}
-use native.Mathlib.Omega.{arith}
-use lib.ListN.{length, length-drop}
+use lib.ListN.{length}
+use Rattle.std.specs.Prelude.{Result}
+use Rattle.octets.specs.declared.refusal.Refusal.{Refusal}
 use Rattle.octets.specs.Write.{over}
-use Rattle.octets.proofs.PartLaws.{tail}
 use Rattle.message.specs.Message.{Message, encode, endpoint_disconnect}
 use Rattle.status.specs.Page.{layout}
 use Rattle.rules.specs.Call as Call
@@ -14,24 +14,19 @@ use Rattle.rules.specs.Table.{answer, step, start_verdict, start_answer, start_n
 use Rattle.rules.specs.Verdict.{Verdict}
 use Rattle.rules.specs.Answer.{Answer, wrote, page, answered}
 use Rattle.distributor.specs.Outcomes.{Sends, Pages}
-use Rattle.distributor.specs.declared.sending.Sent.{Sent}
 use Rattle.service.specs.Limits.{head_length, answer_limit, room}
 use Rattle.service.specs.Request.{call}
 use Rattle.service.specs.Reply.{Replies, Serves, frame_of, answer_octets}
 use Rattle.service.specs.Sending.{behind_head, front}
-use Rattle.service.proofs.SendingLaws.{lent, back, sends_tell, pages_tell, sent_fits, sent_replied}
+use Rattle.service.proofs.SendingLaws.{lent, back, lent_length, sends_tell, pages_tell, sent_fits, sent_replied}
 
--- the room that is lent
-pub lent_length : (l : List ℕ) → length l ≡ answer_limit → length (lent l) ≡ room
-lent_length l size = ap length (tail l head_length) ∙ length-drop head_length l ∙ omega arith
-
-module _ (s l new : List ℕ) (size : length l ≡ answer_limit) (r : Sent) where
+module _ (s l new : List ℕ) (size : length l ≡ answer_limit) (r : Result ℕ Refusal) where
   -- what the last step has written of the head, by the kind of the answer
   abbrev Headed : (kind : ℕ) (x : List ℕ) (to : ℕ) → Type 0
   Headed kind x to = (to ≡ head_length + behind_head r) × (x ≡ over (back l new) 0 (front kind r))
 
   -- with the room said by its name
-  by_room : (P : Answer → (before after : List ℕ) → Sent → Type 0) (a : ℕ → Answer) → P (a (length (lent l))) (lent l) new r → P (a room) (lent l) new r
+  by_room : (P : Answer → (before after : List ℕ) → Result ℕ Refusal → Type 0) (a : ℕ → Answer) → P (a (length (lent l))) (lent l) new r → P (a room) (lent l) new r
   by_room P a h = subst (λ (n : ℕ). P (a n) (lent l) new r) (lent_length l size) h
 
   -- a message

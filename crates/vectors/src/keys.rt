@@ -1,7 +1,5 @@
 // AES Key Wrap with Padding, and RFC 3394's process over registers. The octets are those of the key and then of the
 // plaintext, the ciphertext or the registers; the numbers that end the text are the lengths of the key and of the output.
-ghost use Rattle.std.specs.Prelude.{Bool};
-
 use crate::blocks;
 use crate::cases::Case;
 use crate::outputs::{FILL, Refused};
@@ -15,10 +13,10 @@ const ROOM: usize = 256;
 
 pub fn case(to: &mut impl io::Write, case: Case<'_>) -> io::Result<()> {
     match case.call() {
-        b'w' => whole(to, case, keywrap::wrap),
-        b'u' => whole(to, case, keywrap::unwrap),
-        b'p' => registers(to, case, keywrap::wrap_in_place),
-        _ => registers(to, case, keywrap::unwrap_in_place),
+        b'w' => whole(to, case, |key, text, out| keywrap::wrap(key, text, out)),
+        b'u' => whole(to, case, |key, text, out| keywrap::unwrap(key, text, out)),
+        b'p' => registers(to, case, |w, x| keywrap::wrap_in_place(w, x)),
+        _ => registers(to, case, |w, x| keywrap::unwrap_in_place(w, x)),
     }
 }
 

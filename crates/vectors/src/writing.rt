@@ -4,9 +4,9 @@ use crate::cases::Case;
 use crate::example;
 use crate::messages::Read;
 use crate::outputs::{FILL, ROOM, Refused, Written};
-use message::KeyFields;
 use octets::Refusal;
 use std::io;
+use writers::KeyFields;
 
 pub fn case(to: &mut impl io::Write, case: Case<'_>) -> io::Result<()> {
     match case.call() {
