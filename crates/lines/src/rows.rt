@@ -16,7 +16,8 @@ fn times(behind: &[u8]) -> usize {
     behind.strip_prefix(b"*").map_or(1, numbers::decimal)
 }
 
-// The octets of a line up to the end of its row, no more than a limit.
+// The octets of a line up to the end of its row, no more than a limit. By every tail of the row, since how often an octet
+// is there stands behind its digits.
 pub fn read(alloc: Global, line: &[u8], limit: usize) -> Result<Vec<u8>, AllocError> {
     let row = pieces::from(line, b'[');
     let mut octets = Vec::new(alloc);

@@ -1,25 +1,19 @@
 -- A frame written from the front of an output.
-use Prim.Native.Nat.{ℕ, ◌+◌, ◌≤◌, ◌<◌}
+use Prim.Native.Nat.{ℕ, ◌+◌, ◌≤◌}
 use mathlib.Core.Path.{◌≡◌, refl, ap, subst, ◌∙◌}
 use mathlib.Core.List.{List, [], ◌∷◌, ◌++◌}
 use native.Mathlib.Omega.{arith}
-use lib.ListN.{length, drop, length-append, length-drop}
+use lib.ListN.{length}
 use Rattle.octets.specs.Number.{octets16}
 use Rattle.octets.specs.Write.{over}
 use Rattle.octets.proofs.WriteLaws.{put_put, over_length}
-use Rattle.rules.specs.Answer.{Answer}
-use Rattle.service.specs.Reply.{Replies, frame_of, answer_octets}
+use Rattle.service.specs.Reply.{Replies, frame_of}
 use Rattle.service.specs.Limits.{head_length}
 use Rattle.service.proofs.PieceLaws.{Put, Over, whole, more, from_front}
 
 -- with its length said otherwise
 pub framed : (l a : List ℕ) (n : ℕ) {x : List ℕ} {at : ℕ} → n ≡ length a → Replies (octets16 n ++ a) l x at → Replies (frame_of a) l x at
 framed l a n {x} {at} e h = subst (λ (k : ℕ). Replies (octets16 k ++ a) l x at) e h
-
--- of the same answer
-pub same_answer : (l lent : List ℕ) (a : Answer) {b : Answer} {x : List ℕ} {to : ℕ} → a ≡ b
-    → Replies (frame_of (answer_octets lent a)) l x to → Replies (frame_of (answer_octets lent b)) l x to
-same_answer l lent a {b} {x} {to} e o = subst (λ (c : Answer). Replies (frame_of (answer_octets lent c)) l x to) e o
 
 -- a head, and the values behind it
 pub headed : (l : List ℕ) (kind : ℕ) (values : List ℕ) {x y : List ℕ} {to : ℕ} → head_length + length values ≤ length l

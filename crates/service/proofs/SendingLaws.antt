@@ -1,9 +1,9 @@
 -- A call that writes, lent all of the output behind the head; then the head.
-use Prim.Native.Nat.{ℕ, suc, ◌+◌, ◌-◌, ◌≤◌}
+use Prim.Native.Nat.{ℕ, suc, ◌+◌, ◌≤◌}
 use mathlib.Core.Path.{◌≡◌, sym, ap, ap₂, subst, ◌∙◌}
 use mathlib.Core.List.{List, [], ◌∷◌, ◌++◌, append-nil}
 use native.Mathlib.Omega.{arith}
-use lib.ListN.{length, take, drop, length-append, length-take, length-drop, take-append-drop, drop_of_length-le}
+use lib.ListN.{length, take, drop, length-take, length-drop, take-append-drop, drop_of_length-le}
 use lib.Seq.{drop_at, drop-drop}
 use Rattle.std.proofs.lemmas.List.{take_all}
 use Rattle.octets.specs.Number.{octets16}
@@ -95,13 +95,6 @@ module _ (l : List ℕ) (size : length l ≡ answer_limit) where
         ∙ drop_at (take head_length l) (m ++ drop (length m) (lent l)) head_length front_length
         ∙ ap (λ (r : List ℕ). m ++ r) (ap (drop (length m)) lent_is ∙ drop-drop (length m) head_length l)
 
-    message_fits : (new : List ℕ) → new ≡ m ++ drop (length m) (lent l) → length (back l new) ≡ answer_limit → head_length + length m ≤ answer_limit
-    message_fits new e h =
-        let a : length (take head_length l ++ new) ≡ head_length + length new = length-append (take head_length l) new ∙ ap (λ (k : ℕ). k + length new) front_length in
-        let b : length new ≡ length m + length (drop (length m) (lent l)) = ap length e ∙ length-append m (drop (length m) (lent l)) in
-        let c = ap length (back_is new) in
-        omega (arith, a, b, c)
-
     message_replied : (kind : ℕ) {x : List ℕ} {to : ℕ} → to ≡ head_length + length m
         → x ≡ over (back l (m ++ drop (length m) (lent l))) 0 (octets16 (1 + length m) ++ kind ∷ []) → Replies (frame_of (kind ∷ m)) l x to
     message_replied kind {x} {to} e o =
@@ -114,12 +107,6 @@ module _ (l : List ℕ) (size : length l ≡ answer_limit) where
 -- ---- the call's answer: a refusal, or its kind and the octets written
 
 module _ (l new m : List ℕ) (size : length l ≡ answer_limit) where
-  pub sent_fits : (w : Verdict) (r : Result ℕ Refusal) → Tells w m (lent l) new r → length (back l new) ≡ answer_limit → head_length + behind_head r ≤ answer_limit
-  sent_fits allowed (Err n) s h = absurd s
-  sent_fits allowed (Ok n) s h = rw s.0 (message_fits l size m new s.1 h)
-  sent_fits (refusal k) (Err n) s h = omega arith
-  sent_fits (refusal k) (Ok n) s h = absurd s
-
   pub sent_replied : (kind : ℕ) (a : Answer) → answer_octets [] a ≡ kind ∷ m → (w : Verdict) (r : Result ℕ Refusal) → Tells w m (lent l) new r → {x : List ℕ} {to : ℕ}
       → (to ≡ head_length + behind_head r) × (x ≡ over (back l new) 0 (front kind r))
       → Replies (frame_of (answer_octets [] (answered w 0 a))) l x to

@@ -1,14 +1,10 @@
 -- What Tunnel octets answers: a delivery fits a frame.
 use Prim.Native.Nat.{ℕ, ◌+◌, ◌-◌, ◌≤◌}
 use mathlib.Core.Path.{◌≡◌, refl, sym, subst}
-use mathlib.Core.Bool.{Bool, true, false, cond}
-use mathlib.Core.List.{List, ◌∷◌, ◌++◌}
-use mathlib.Core.Option.{some, none, some-injective, none-ne-some}
+use mathlib.Core.List.{List}
 use native.Mathlib.Omega.{arith}
-use lib.Dec.{eqb}
 use lib.ListN.{length, drop, length-take, length-drop}
 use Rattle.octets.specs.Bounds.{part_in}
-use Rattle.octets.specs.Number.{octets16, octets_of_32}
 use Rattle.octets.specs.Part.{part}
 use Rattle.octets.specs.declared.parts.Bounds.{Bounds}
 use Rattle.octets.proofs.Tests.{by_choice}
@@ -19,13 +15,10 @@ use Rattle.message.specs.declared.bodies.Fields.{Fields}
 use Rattle.message.specs.declared.bodies.Fields.TheVariants.{SupportedProfiles, UnsupportedVersion, MediaKeys, TunneledDtls, EndpointDisconnect}
 use Rattle.rules.specs.Answer.{Answer, refused, keys_stored, delivery, removed, of_delivery, answered}
 use Rattle.rules.specs.Layout.{up}
-use Rattle.distributor.specs.Outcomes.{received_of}
 use Rattle.rules.specs.Refusals.{receiving}
 use Rattle.rules.specs.Table.{endpoint_for, knows, keys_verdict, fields_answer, read_answer, octets_answer}
 use Rattle.rules.specs.Verdict.{Verdict, allowed, refusal}
-use Rattle.distributor.specs.declared.receiving.Received.{Received}
 use Rattle.service.specs.Limits.{room, answer_limit}
-use Rattle.service.specs.Reply.{Replies, frame_of}
 
 -- where Tunnel octets answers a delivery, its octets stand behind the identifier and the length
 abbrev OfTunnel : Answer → Type 0

@@ -1,5 +1,5 @@
 -- Start, Booth packet, Close and Write page: their answers are a refusal, or a message or the page, by one verdict.
-use Prim.Native.Nat.{ℕ, ◌+◌, ◌≤◌}
+use Prim.Native.Nat.{ℕ, ◌+◌}
 use mathlib.Core.Path.{◌≡◌, refl, ap, subst, ◌∙◌}
 use mathlib.Core.List.{List, []}
 use lib.ListN.{length}
@@ -18,7 +18,7 @@ use Rattle.service.specs.Limits.{head_length, answer_limit, room}
 use Rattle.service.specs.Request.{call}
 use Rattle.service.specs.Reply.{Replies, Serves, frame_of, answer_octets}
 use Rattle.service.specs.Sending.{behind_head, front}
-use Rattle.service.proofs.SendingLaws.{lent, back, lent_length, sends_tell, pages_tell, sent_fits, sent_replied}
+use Rattle.service.proofs.SendingLaws.{lent, back, lent_length, sends_tell, pages_tell, sent_replied}
 
 module _ (s l new : List ℕ) (size : length l ≡ answer_limit) (r : Result ℕ Refusal) where
   -- what the last step has written of the head, by the kind of the answer
@@ -30,18 +30,11 @@ module _ (s l new : List ℕ) (size : length l ≡ answer_limit) (r : Result ℕ
   by_room P a h = subst (λ (n : ℕ). P (a n) (lent l) new r) (lent_length l size) h
 
   -- a message
-  message_fits : (m : Message) (w : Verdict) → Sends (answered w 0 (wrote (encode m))) (lent l) new r → length (back l new) ≡ answer_limit → head_length + behind_head r ≤ answer_limit
-  message_fits m w h k = sent_fits l new (encode m) size w r (sends_tell (encode m) w (lent l) new r h) k
-
   message_replied : (m : Message) (w : Verdict) → Sends (answered w 0 (wrote (encode m))) (lent l) new r → {x : List ℕ} {to : ℕ} → Headed 2 x to
       → Replies (frame_of (answer_octets [] (answered w 0 (wrote (encode m))))) l x to
   message_replied m w h o = sent_replied l new (encode m) size 2 (wrote (encode m)) refl w r (sends_tell (encode m) w (lent l) new r h) o
 
   module _ (list : List ℕ) (h : Sends (start_answer s list (length (lent l))) (lent l) new r) where
-    pub start_fits : length (back l new) ≡ answer_limit → head_length + behind_head r ≤ answer_limit
-    unfolding start_answer
-    start_fits k = message_fits (start_message list) (start_verdict s list (length (lent l))) h k
-
     pub start_served : {block x : List ℕ} {to : ℕ} → block ≡ start_next s list (length (lent l)) → Headed 2 x to
         → Serves (call (Call.start list room)) s block l x to
     unfolding answer step start_answer
@@ -51,10 +44,6 @@ module _ (s l new : List ℕ) (size : length l ≡ answer_limit) (r : Result ℕ
     )
 
   module _ (identifier : List ℕ) (h : Sends (close_answer s identifier (length (lent l))) (lent l) new r) where
-    pub close_fits : length (back l new) ≡ answer_limit → head_length + behind_head r ≤ answer_limit
-    unfolding close_answer
-    close_fits k = message_fits (endpoint_disconnect identifier) (close_verdict s identifier (length (lent l))) h k
-
     pub close_served : {block x : List ℕ} {to : ℕ} → block ≡ close_next s identifier (length (lent l)) → Headed 2 x to
         → Serves (call (Call.close identifier room)) s block l x to
     unfolding answer step close_answer
@@ -64,22 +53,12 @@ module _ (s l new : List ℕ) (size : length l ≡ answer_limit) (r : Result ℕ
     )
 
   module _ (endpoint : ℕ) (packet : List ℕ) (h : Sends (packet_answer s endpoint packet (length (lent l))) (lent l) new r) where
-    pub packet_fits : length (back l new) ≡ answer_limit → head_length + behind_head r ≤ answer_limit
-    unfolding packet_answer
-    packet_fits k = message_fits (packet_message s endpoint packet) (packet_verdict s endpoint packet (length (lent l))) h k
-
     pub packet_replied : {x : List ℕ} {to : ℕ} → Headed 2 x to
         → Replies (frame_of (answer_octets [] (answer s (Call.booth_packet endpoint packet room)))) l x to
     unfolding answer packet_answer
     packet_replied o = message_replied (packet_message s endpoint packet) (packet_verdict s endpoint packet room) (by_room Sends (packet_answer s endpoint packet) h) o
 
   module _ (h : Pages (page_answer s (length (lent l))) (lent l) new r) where
-    pub page_fits : length (back l new) ≡ answer_limit → head_length + behind_head r ≤ answer_limit
-    unfolding page_answer
-    page_fits k =
-        sent_fits l new (layout (page_entries s)) size (page_verdict s (length (lent l))) r
-        (pages_tell (page_entries s) (page_verdict s (length (lent l))) (lent l) new r h) k
-
     pub page_replied : {x : List ℕ} {to : ℕ} → Headed 10 x to → Replies (frame_of (answer_octets [] (answer s (Call.write_page room)))) l x to
     unfolding answer page_answer
     page_replied o =

@@ -15,10 +15,12 @@ use crate::limits::{ANSWER, HEAD, KEYS, RECORD};
 use distributor::{Padded, Record, RecordKeys};
 use message::limits::WIDTH;
 
-// The states of a record.
-const OPEN: u8 = 1;
-
-const KEYED: u8 = 2;
+// What stands first in a record.
+#[derive(Clone, Copy)]
+enum State {
+    Open = 1,
+    Keyed,
+}
 
 // A field: how many octets it has, then these, with zeros up to N.
 fn put_field<const N: usize>(out: &mut [u8], at: usize, field: &Padded<N>) -> usize
@@ -61,11 +63,11 @@ pub(crate) fn found(out: &mut [u8; ANSWER], r: &Record) -> usize
 {
     match r.keys {
         Some(keys) => {
-            let at = put_front(out, KEYED, &r.identifier, r.endpoint);
+            let at = put_front(out, State::Keyed as u8, &r.identifier, r.endpoint);
             put_keys(out, at, &keys)
         }
         None => {
-            let at = put_front(out, OPEN, &r.identifier, r.endpoint);
+            let at = put_front(out, State::Open as u8, &r.identifier, r.endpoint);
             octets::put_octets(out, at, &[0; KEYS])
         }
     }

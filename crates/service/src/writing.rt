@@ -1,4 +1,5 @@
-// Requests whose calls write a message, Start, Booth packet and Close, or the status page.
+// Requests whose calls write a message, Start, Booth packet and Close, or the status page. Each makes its call by itself:
+// one function over a closure would have to promise, of every call, all that the four promise here.
 ghost use Rattle.service.specs.Limits.{room};
 ghost use Rattle.rules.specs.Call as Call;
 ghost use Rattle.service.specs.Request as Request;
