@@ -19,7 +19,7 @@ use Rattle.aes.specs.Field.{xor}
 use Rattle.aes.proofs.Xor.{sum_zero, sum_twice}
 use Rattle.octets.specs.Write.{over}
 use Rattle.keywrap.specs.Inner.{masked}
-use Rattle.keywrap.specs.KeyWrap.{register_count, block, register_at, replaced, xor_lists, octets64, xor_count, wrap_step, wrap_steps, unwrap_step, unwrap_steps}
+use Rattle.keywrap.specs.KeyWrap.{register_count, block, register_at, replaced, xor_lists, octets64, xor_count, step, wrap_step, wrap_steps, unwrap_step, unwrap_steps}
 use Rattle.keywrap.specs.Limits.{plaintext_most, ciphertext_most}
 use Rattle.keywrap.specs.Padding.{aiv, padding, initial_registers, zeros, constant_right}
 use Rattle.keywrap.proofs.StepLaws.{register_first, register_last}
@@ -116,6 +116,12 @@ in_reach r t x e l m =
     let a = register_first (register_count x) t in
     let b = register_last t x l in
     (omega arith, omega arith, omega arith)
+
+-- ---- a step through a function of which one value is known
+
+pub stepped : (t : ℕ) (f : List ℕ → List ℕ) (x y b : List ℕ) → b ≡ f (block (register_at (register_count x) t) x) → y ≡ step t (λ _. b) x → y ≡ step t f x
+unfolding step
+stepped t f x y b e s = s ∙ ap (λ (v : List ℕ). replaced (register_at (register_count x) t) v x) e
 
 -- ---- a step more, and a step less
 

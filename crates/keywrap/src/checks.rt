@@ -1,7 +1,7 @@
 // The checks of unwrapping.
 ghost use Rattle.std.specs.Prelude.{◌≡◌, ◌+◌, ◌*◌, ◌≤◌, ◌&&◌, eqb, length, drop};
 ghost use Rattle.keywrap.specs.Inner as Inner;
-ghost use Rattle.keywrap.specs.Limits.{ciphertext_most};
+ghost use Rattle.keywrap.specs.Inner.{RegistersFit};
 ghost use Rattle.keywrap.specs.Padding as Spec;
 
 use crate::limits::CIPHERTEXT;
@@ -66,7 +66,7 @@ fn zeros_from(x: &[u8], from: usize, found: u8) -> bool
 // and none on what it was worked out from.
 #[inline(never)]
 pub(crate) fn verified(x: &[u8]) -> bool
-    requires { (16 ≤ length x.now) × (length x.now ≤ ciphertext_most) }
+    requires { RegistersFit x.now }
     ensures { result ≡ Spec.verified x.now }
 {
     let m = mli(x);

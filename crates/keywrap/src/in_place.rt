@@ -18,7 +18,8 @@ pub fn wrap_in_place(w: &[u8; 176], x: &mut [u8]) -> bool
     fits
 }
 
-// RFC 5649, 4.2, step 1. Nothing is verified: `unwrap` is the call that does.
+// RFC 5649, 4.2, step 1. Nothing is verified: `unwrap` is the call that does. Not one function with `wrap_in_place`, over a
+// closure that lends the registers on: no shorter.
 pub fn unwrap_in_place(w: &[u8; 176], x: &mut [u8]) -> bool
     ensures { (result ≡ Spec.length_fits (length x.old)) × (x.new ≡ in_place (Spec.unwrap_registers w.now) x.old) }
 {

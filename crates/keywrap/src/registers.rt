@@ -23,11 +23,10 @@ pub(crate) fn replace(x: &mut [u8], i: usize, b: [u8; 16])
 }
 
 // MSB(64, b) ^ t, the rest as it is.
-pub(crate) fn xor_count(t: usize, b: [u8; 16]) -> [u8; 16]
-    requires { t < 256 }
+pub(crate) fn xor_count(t: u8, b: [u8; 16]) -> [u8; 16]
     ensures { result ≡ Spec.xor_count t b }
 {
     let mut c = b;
-    c[7] = b[7] ^ (t as u8);
+    c[7] = b[7] ^ t;
     c
 }

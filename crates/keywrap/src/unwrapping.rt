@@ -2,8 +2,7 @@
 ghost use Rattle.std.specs.Prelude.{◌≡◌, true, ◌%◌, ◌≤◌, length};
 ghost use Rattle.keywrap.specs.Calls.{unwrapping, Writes, answer_of};
 ghost use Rattle.keywrap.specs.Claims.{Unwraps};
-ghost use Rattle.keywrap.specs.Inner.{taking};
-ghost use Rattle.keywrap.specs.Limits.{ciphertext_most};
+ghost use Rattle.keywrap.specs.Inner.{taking, RegistersFit};
 ghost use Rattle.keywrap.specs.Padding as Spec;
 
 use crate::checks::{length_fits, mli, verified};
@@ -51,7 +50,7 @@ fn unwrap_in(w: &[u8; 176], c: &[u8], x: &mut [u8], out: &mut [u8]) -> Result<us
 
 // What the registers hold, if they pass the checks.
 fn take_plaintext(x: &[u8], out: &mut [u8]) -> Result<usize, Refusal>
-    requires { (length x.now % 8 ≡ 0) × (16 ≤ length x.now) × (length x.now ≤ ciphertext_most) }
+    requires { (length x.now % 8 ≡ 0) × RegistersFit x.now }
     ensures { Writes (taking x.now (length out.old)) (Spec.plaintext_in x.now) out.old out.new (answer_of result) }
 {
     if !verified(x) {

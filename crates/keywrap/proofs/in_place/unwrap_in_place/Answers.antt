@@ -10,7 +10,7 @@ pub unwrap_registers-requires : goal.unwrap_registers-requires
 unwrap_registers-requires c =
     let n = length c.args.x.now in
     let f : length_fits n ≡ true = sym c.length_fits-fits.ensures ∙ c.if-fits.true in
-    (fitting_multiple n f, fitting_least n f, fitting_most n f)
+    (fitting_multiple n f, (fitting_least n f, fitting_most n f))
 
 pub shape_of-x : goal.shape_of-x
 shape_of-x c = omega arith

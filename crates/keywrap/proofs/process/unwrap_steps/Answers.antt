@@ -1,19 +1,27 @@
-use Prim.Native.Nat.{◌-◌}
-use mathlib.Core.Path.{◌≡◌, sym, ap, ◌∙◌}
+use Prim.Native.Nat.{ℕ, ◌-◌}
+use mathlib.Core.Path.{◌≡◌, refl, sym, ap, ◌∙◌}
+use mathlib.Core.List.{List}
 use native.Mathlib.Omega.{arith}
-use Rattle.keywrap.specs.KeyWrap.{unwrap_steps}
-use Rattle.keywrap.proofs.CodeLaws.{unwrap_less}
+use Rattle.aes.specs.Cipher.{inv_cipher}
+use Rattle.keywrap.specs.KeyWrap.{xor_count, unwrap_step, unwrap_steps}
+use Rattle.keywrap.proofs.CodeLaws.{stepped, unwrap_less}
 use Rattle.keywrap.proofs.process.unwrap_steps.Goals as goal
 
+pub loop-t-init : goal.loop-t-init
+loop-t-init c = refl
+
 pub loop-t-preserved : goal.loop-t-preserved
+unfolding unwrap_step
 loop-t-preserved c =
     let l = c.loop-t in
+    let t = l.t-counter in
     let w = c.args.w.now in
-    ap (unwrap_steps w (l.t - 1 - 1)) c.unwrap_step.ensures ∙ sym (unwrap_less w (l.t - 1) l.x (omega arith)) ∙ l.invariant
+    let s = c.step.ensures in
+    ap (unwrap_steps w (t - 1)) (stepped t (λ (b : List ℕ). inv_cipher w (xor_count t b)) l.x c.step.new.x s.0 s.1.1 s.2) ∙ sym (unwrap_less w t l.x (omega arith)) ∙ l.invariant
 
 pub returns : goal.returns
 unfolding unwrap_steps
 returns c =
     let l = c.loop-t in
-    let e : l.t - 1 ≡ 0 = omega arith in
+    let e : l.t-counter ≡ 0 = omega arith in
     rw e at l.invariant

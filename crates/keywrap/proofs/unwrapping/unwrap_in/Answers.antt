@@ -20,7 +20,7 @@ unwrap_registers-requires c =
     let m = fitting_multiple n f in
     let l = fitting_least n f in
     let h = fitting_most n f in
-    (omega (arith, e), omega (arith, e), omega (arith, e))
+    (omega (arith, e), (omega (arith, e), omega (arith, e)))
 
 pub take_plaintext-requires : goal.take_plaintext-requires
 take_plaintext-requires c =
@@ -29,7 +29,7 @@ take_plaintext-requires c =
     let m = fitting_multiple n f in
     let l = fitting_least n f in
     let h = fitting_most n f in
-    (omega arith, omega arith, omega arith)
+    (omega arith, (omega arith, omega arith))
 
 pub returns : goal.returns
 returns c =

@@ -1,21 +1,23 @@
-use mathlib.Core.Path.{refl}
+use mathlib.Core.Path.{refl, ap, ◌∙◌}
 use native.Mathlib.Omega.{arith}
-use Rattle.keywrap.specs.KeyWrap.{step, unwrap_step}
+use lib.ListN.{length}
+use Rattle.keywrap.specs.KeyWrap.{step}
 use Rattle.keywrap.proofs.CodeLaws.{in_reach}
-use Rattle.keywrap.proofs.process.unwrap_step.Goals as goal
+use Rattle.keywrap.proofs.process.step.Goals as goal
 
 pub block-requires : goal.block-requires
-block-requires c =
+block-requires g c =
     let a = c.args in
     in_reach c.register-i.result a.t a.x.now c.register-i.ensures (omega arith) (omega arith)
 
 pub replace-requires : goal.replace-requires
-replace-requires c =
+replace-requires g c =
     let a = c.args in
     let r = c.register-i in
     in_reach r.result a.t a.x.now r.ensures (omega arith) (omega arith)
 
 pub returns : goal.returns
-unfolding unwrap_step step
-returns c =
-    rw (c.replace.ensures, c.decrypt_block.ensures, c.xor_count-b.ensures, c.block.ensures, c.register-i.ensures) refl
+unfolding step
+returns g c =
+    let e = c.register-i.ensures in
+    (c.f-b.result, rw (← e, ← c.block.ensures) c.f-b.ensures, c.replace.ensures ∙ rw e refl)
