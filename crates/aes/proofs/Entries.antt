@@ -4,7 +4,7 @@ use mathlib.Core.Path.{◌≡◌, refl, sym, ap, ap₂, ◌∙◌}
 use mathlib.Core.List.{List}
 use native.Mathlib.Omega.{arith}
 use lib.ListN.{length, get_or, take, drop}
-use lib.Seq.{get_or-take, get_or-drop}
+use lib.Seq.{get_or-take, get_or-drop, ext_get_or}
 use Rattle.aes.specs.Field.{xor, sub_byte, inv_affine}
 use Rattle.aes.specs.State.{at, state_by, sub_bytes, shift_rows, inv_shift_rows, row_times, mixed, add_round_key}
 use Rattle.aes.specs.KeyExpansion.{round_key}
@@ -68,7 +68,7 @@ module _ (s : List ℕ) (i : ℕ) (h : i < 16) where
   next_at = octet_of (λ r c. at s ((r + 1) % 4) c) i h ∙ at_place s ((i % 4 + 1) % 4) (i / 4) (i / 4 * 4 + (i + 1) % 4) (omega arith)
 
   -- from the octets of the state's own column, each of which the next rows bring to place i
-  pub mixed_at : (j k l m : ℕ)
+  mixed_at : (j k l m : ℕ)
       → get_or (mixed j k l m s) i 0
       ≡ row_times j k l m (get_or s i 0) (get_or (next_rows s) i 0) (get_or (next_rows (next_rows s)) i 0) (get_or (next_rows (next_rows (next_rows s))) i 0)
   unfolding mixed
@@ -106,10 +106,18 @@ pub next_long : (s : List ℕ) → length (next_rows s) ≡ 16
 unfolding next_rows
 next_long s = state_long (λ r c. at s ((r + 1) % 4) c)
 
-pub mixed_long : (j k l m : ℕ) (s : List ℕ) → length (mixed j k l m s) ≡ 16
+mixed_long : (j k l m : ℕ) (s : List ℕ) → length (mixed j k l m s) ≡ 16
 unfolding mixed
 mixed_long j k l m s =
     state_long (λ r c. row_times j k l m (at s r c) (at s ((r + 1) % 4) c) (at s ((r + 2) % 4) c) (at s ((r + 3) % 4) c))
+
+-- what a matrix makes of a state, octet by octet
+pub mixed_whole : (j k l m : ℕ) (s r : List ℕ) → length r ≡ 16
+    → ((i : ℕ) → i < 16 → get_or r i 0 ≡ row_times j k l m (get_or s i 0) (get_or (next_rows s) i 0) (get_or (next_rows (next_rows s)) i 0) (get_or (next_rows (next_rows (next_rows s))) i 0))
+    → r ≡ mixed j k l m s
+mixed_whole j k l m s r long e =
+    ext_get_or 0 r (mixed j k l m s) (long ∙ sym (mixed_long j k l m s))
+    (λ i h. let b : i < 16 = omega (arith, long) in e i b ∙ sym (mixed_at s i b j k l m))
 
 pub add_long : (s k : List ℕ) → length (add_round_key s k) ≡ 16
 unfolding add_round_key

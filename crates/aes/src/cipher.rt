@@ -6,6 +6,7 @@ use crate::state::{
     add_round_key, inv_mix_columns, inv_sub_bytes, mix_columns, shift_rows, sub_bytes,
 };
 
+#[tactic(auto, unfolding(crate::specs::Cipher::round))]
 fn one_round(s: [u8; 16], w: &[u8; 176], n: usize) -> [u8; 16]
     requires { n < 11 }
     ensures { result ≡ Spec.round w.now n s }
@@ -13,6 +14,7 @@ fn one_round(s: [u8; 16], w: &[u8; 176], n: usize) -> [u8; 16]
     add_round_key(mix_columns(shift_rows::<5>(sub_bytes(s))), w, n)
 }
 
+#[tactic(auto, unfolding(crate::specs::Cipher::inv_round))]
 fn inv_round(s: [u8; 16], w: &[u8; 176], n: usize) -> [u8; 16]
     requires { n < 11 }
     ensures { result ≡ Spec.inv_round w.now n s }

@@ -3,7 +3,7 @@
 ghost use Rattle.std.specs.Prelude.{◌≡◌, ◌<◌, ◌*◌, ◌%◌};
 ghost use Rattle.octets.specs.Number.{octet_at};
 ghost use Rattle.aes.specs.KeyExpansion.{round_key, sub_word};
-ghost use Rattle.aes.specs.Columns.{inv_affines, next_rows};
+ghost use Rattle.aes.specs.Columns.{inv_affines, next_rows, MixedBy};
 ghost use Rattle.aes.specs.State.{sub_bytes, inv_sub_bytes, shift_rows, inv_shift_rows, mix_columns, inv_mix_columns, add_round_key};
 
 use crate::circuit::{inv_affine, sub_byte};
@@ -17,6 +17,7 @@ pub(crate) fn sub_bytes(s: [u8; 16]) -> [u8; 16]
 }
 
 // The S-box for a word of the key schedule.
+#[tactic(auto, unfolding(crate::specs::KeyExpansion::sub_word, crate::specs::State::sub_bytes, crate::specs::State::state_by, crate::specs::State::column, crate::specs::State::at))]
 pub(crate) fn sub_word(b: [u8; 4]) -> [u8; 4]
     ensures { result ≡ sub_word b }
 {
@@ -59,24 +60,27 @@ fn next_rows(s: [u8; 16]) -> [u8; 16]
     from_fn(|i| s[i / 4 * 4 + (i + 1) % 4])
 }
 
-// A column times the matrix, from the four turns of each column.
+// Each octet by a rule, from the octets of its column from its row on.
+fn mixed<F: Fn(u8, u8, u8, u8) -> u8>(row: F, s: [u8; 16]) -> [u8; 16]
+    requires { F.IsAlwaysCallable row }
+    ensures { MixedBy (F.post row) s result }
+{
+    let a = next_rows(s);
+    let b = next_rows(a);
+    let c = next_rows(b);
+    from_fn(|i| row(s[i], a[i], b[i], c[i]))
+}
+
 pub(crate) fn mix_columns(s: [u8; 16]) -> [u8; 16]
     ensures { result ≡ mix_columns s }
 {
-    let a = next_rows(s);
-    let b = next_rows(a);
-    let c = next_rows(b);
-    from_fn(|i| mix_octet(s[i], a[i], b[i], c[i]))
+    mixed(mix_octet, s)
 }
 
-// Not one function with `mix_columns`, over the octet's rule: each loop has one caller, so that it stands in that caller's.
 pub(crate) fn inv_mix_columns(s: [u8; 16]) -> [u8; 16]
     ensures { result ≡ inv_mix_columns s }
 {
-    let a = next_rows(s);
-    let b = next_rows(a);
-    let c = next_rows(b);
-    from_fn(|i| inv_mix_octet(s[i], a[i], b[i], c[i]))
+    mixed(inv_mix_octet, s)
 }
 
 // AddRoundKey with the key of round n.
