@@ -30,3 +30,16 @@ pub fn read(alloc: Global, line: &[u8], limit: usize) -> Result<Vec<u8>, AllocEr
     }
     Ok(octets)
 }
+
+#[cfg(test)]
+mod tests {
+    use super::*;
+    use std::test::Fail;
+
+    #[test]
+    fn a_row_up_to_the_limit(rt: HostRuntime) -> Result<(), Fail> {
+        let octets = read(rt.alloc(), b"1 [AA 01*3 7F", 4)?;
+        assert_eq!(rt; octets.as_slice(), [0xAA, 1, 1, 1].as_slice());
+        Ok(())
+    }
+}

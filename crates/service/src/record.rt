@@ -40,11 +40,11 @@ fn put_keys(out: &mut [u8; ANSWER], at: usize, k: &RecordKeys) -> usize
     ensures { (result ≡ at + Limits.keys_length) × (out.new ≡ over out.old at (Spec.keys_octets (keys_read k.now))) }
 {
     octets::put_number16(out, at, k.profile);
-    let client_key = put_field(out, at + 2, &k.mki);
-    let server_key = put_field(out, client_key, &k.client_key);
-    let client_salt = put_field(out, server_key, &k.server_key);
-    let server_salt = put_field(out, client_salt, &k.client_salt);
-    put_field(out, server_salt, &k.server_salt)
+    let end = put_field(out, at + 2, &k.mki);
+    let end = put_field(out, end, &k.client_key);
+    let end = put_field(out, end, &k.server_key);
+    let end = put_field(out, end, &k.client_salt);
+    put_field(out, end, &k.server_salt)
 }
 
 // All in front of the key fields.

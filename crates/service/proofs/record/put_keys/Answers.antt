@@ -6,5 +6,5 @@ use Rattle.service.proofs.record.put_keys.Goals as goal
 pub returns : goal.returns
 returns c =
     let a = c.args in
-    keys_done a.out.now a.at (keys_read a.k.now) (search rules) c.put_number16.ensures c.put_field-client_key.ensures c.put_field-server_key.ensures
-    c.put_field-client_salt.ensures c.put_field-server_salt.ensures c.put_field.ensures
+    keys_done a.out.now a.at (keys_read a.k.now) (search rules) c.put_number16.ensures c.put_field-end.ensures c.put_field-end-2.ensures
+    c.put_field-end-3.ensures c.put_field-end-4.ensures c.put_field.ensures
