@@ -5,7 +5,6 @@
 use anyhow::{Context, Result};
 use distributor::BLOCK;
 use service::{ANSWER, FRAME_LIMIT};
-use std::io;
 use std::io::{ErrorKind, Read, Write};
 
 const UNREAD: &str = "a request could not be read";
@@ -21,10 +20,15 @@ fn fill(input: &mut impl Read, octets: &mut [u8]) -> Result<bool> {
     }
 }
 
-// Reads n octets and drops them; false where the input ends before.
-fn skip(input: &mut impl Read, n: u64) -> Result<bool> {
-    let skipped = io::copy(&mut input.take(n), &mut io::sink()).context(UNREAD)?;
-    Ok(skipped == n)
+// Reads n octets into the room of a request and drops them; false where the input ends before. By `io::copy` they would stand
+// in 8,192 octets of the stack besides: the relay's memory is fixed.
+fn skip(input: &mut impl Read, frame: &mut [u8; FRAME_LIMIT], n: usize) -> Result<bool> {
+    for _ in 0..n / FRAME_LIMIT {
+        if !fill(input, frame)? {
+            return Ok(false);
+        }
+    }
+    fill(input, &mut frame[..n % FRAME_LIMIT])
 }
 
 // Writes the answer's octets out at once, since a caller may wait for them.
@@ -48,7 +52,7 @@ fn turn(
     }
     let n = u16::from_be_bytes(head);
     let count = if FRAME_LIMIT < n as usize {
-        if !skip(input, n as u64)? {
+        if !skip(input, frame, n as usize)? {
             return Ok(false);
         }
         service::too_long(out)
