@@ -14,8 +14,8 @@ use rows::{State, array, endpoint_of, state_of};
 // A field of at most N octets, with zeros behind its length.
 #[derive(Clone, Copy)]
 pub struct Padded<const N: usize> {
-    pub length: u8,
     pub octets: [u8; N],
+    pub length: u8,
 }
 
 #[derive(Clone, Copy)]
@@ -42,8 +42,8 @@ fn field_at<const N: usize>(row: &[u8], at: usize) -> Padded<N>
     ensures { result ≡ R.field_at N row.now at }
 {
     Padded {
-        length: octets::octet(row, at),
         octets: array(row, at + 1),
+        length: octets::octet(row, at),
     }
 }
 

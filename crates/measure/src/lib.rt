@@ -146,28 +146,18 @@ fn hand_over_keys(keys: RecordKeys, out: &mut [u8; RECORD]) {
     hand_over_field(keys.server_salt, SERVER_SALT, out);
 }
 
-const NO_FIELD: Padded<32> = Padded {
-    length: 0,
-    octets: [0; 32],
-};
-
-// What is handed over of an association without keys.
-const NO_KEYS: RecordKeys = RecordKeys {
-    profile: 0,
-    mki: Padded {
-        length: 0,
-        octets: [0; 16],
-    },
-    client_key: NO_FIELD,
-    server_key: NO_FIELD,
-    client_salt: NO_FIELD,
-    server_salt: NO_FIELD,
-};
-
 fn hand_over(record: Record, out: &mut [u8; RECORD]) {
-    octets::put_octet(out, KEYED, u8::from(record.keys.is_some()));
     octets::put_octets(out, IDENTIFIER, &record.identifier);
-    hand_over_keys(record.keys.unwrap_or(NO_KEYS), out);
+    match record.keys {
+        Some(keys) => {
+            octets::put_octet(out, KEYED, 1);
+            hand_over_keys(keys, out);
+        }
+        None => {
+            octets::put_octet(out, KEYED, 0);
+            octets::put_octets(out, PROFILE, &[0; RECORD - PROFILE]);
+        }
+    }
 }
 
 // The endpoint of the record, whose other fields are handed over.
