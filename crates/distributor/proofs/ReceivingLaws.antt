@@ -4,11 +4,9 @@ use mathlib.Core.Path.{◌≡◌, refl, sym, ap, subst, ◌∙◌}
 use mathlib.Core.Bool.{Bool, true, false, cond}
 use mathlib.Core.List.{List}
 use native.Mathlib.Omega.{arith}
-use borrow.Author.Tests.{eqb-true, ne_eqb}
-use lib.Dec.{eqb}
-use Rattle.std.specs.Prelude.{Option, Some, None, Result, Ok, Err}
+use borrow.Author.Tests.{ne_eqb}
+use Rattle.std.specs.Prelude.{Some, Result, Ok, Err}
 use Rattle.octets.specs.Bounds.{part_in}
-use Rattle.octets.specs.Part.{part}
 use Rattle.octets.specs.Refusal.{number_of}
 use Rattle.octets.specs.declared.refusal.Refusal.{Refusal}
 use Rattle.message.specs.Limits.{header, width}
@@ -25,7 +23,7 @@ use Rattle.rules.specs.Layout.{up, row_of, endpoint_of, keyed_row, with_row, vac
 use Rattle.rules.specs.Verdict.{allowed, refusal}
 use Rattle.rules.specs.Answer.{Answer, refused, keys_stored, delivery, removed}
 use Rattle.rules.specs.Refusals.{received, receiving}
-use Rattle.rules.specs.Table.{place_of_identifier, fields_answer, fields_next, read_answer, read_next, octets_answer, octets_next}
+use Rattle.rules.specs.Table.{place_of_identifier, fields_answer, fields_next, read_next, octets_answer, octets_next}
 use Rattle.rows.specs.ReadKeys.{keys_read}
 use Rattle.rows.specs.declared.writing.ReadKeys.{ReadKeys}
 use Rattle.distributor.specs.Outcomes.{Found, Takes, Reads, whole_of, keys_place, keys_verdict}

@@ -1,6 +1,6 @@
 -- DTLS among the kinds of packets.
 use mathlib.Core.Path.{◌≡◌, refl}
-use mathlib.Core.Bool.{Bool, false}
+use mathlib.Core.Bool.{false}
 use Rattle.demux.specs.declared.sorting.Kind.{Kind}
 use Rattle.rules.specs.Refusals.{is_dtls_kind}
 

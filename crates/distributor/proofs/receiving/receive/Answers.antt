@@ -1,4 +1,4 @@
-use mathlib.Core.Path.{refl, sym, ◌∙◌}
+use mathlib.Core.Path.{sym, ◌∙◌}
 use Rattle.distributor.proofs.ReceivingLaws.{of_reading, tunneled}
 use Rattle.distributor.proofs.receiving.receive.Goals as goal
 

@@ -2,7 +2,6 @@ use mathlib.Core.Path.{◌≡◌, refl, sym, ap, ◌∙◌}
 use borrow.Author.Rules.{rules}
 use denote.Enum.Bare.{same_true, same_false}
 use Rattle.std.specs.Prelude.{Some, None, Ok}
-use Rattle.octets.specs.declared.refusal.Refusal.{Refusal}
 use Rattle.octets.specs.contracts.refusal.Refusal.{the_type}
 use Rattle.message.specs.Frame.{framing_of}
 use Rattle.message.specs.declared.framing.Frame.{Frame}

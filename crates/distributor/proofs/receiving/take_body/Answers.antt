@@ -1,4 +1,4 @@
-use mathlib.Core.Path.{sym, ap, ◌∙◌}
+use mathlib.Core.Path.{ap, ◌∙◌}
 use Rattle.message.specs.Body.{content}
 use Rattle.message.specs.Read.{body_answer}
 use Rattle.distributor.proofs.CheckLaws.{passed_on}

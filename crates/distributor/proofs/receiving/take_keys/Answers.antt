@@ -1,5 +1,4 @@
 use mathlib.Core.Path.{sym, ap, ◌∙◌}
-use native.Mathlib.Omega.{arith}
 use borrow.Author.Tests.{ltb-true}
 use Rattle.rules.specs.Layout.{endpoint_of}
 use Rattle.rules.proofs.ViewVerdicts.{keys_passed}

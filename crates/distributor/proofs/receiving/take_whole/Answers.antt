@@ -1,8 +1,6 @@
 use mathlib.Core.Path.{◌≡◌, refl, sym, ap, ◌∙◌}
-use Prim.Native.Nat.{◌+◌}
 use borrow.Author.Rules.{rules}
 use denote.Enum.Bare.{same_true, same_false}
-use Rattle.message.specs.Limits.{header}
 use Rattle.message.specs.Frame.{whole}
 use Rattle.message.specs.declared.framing.Kind.{Kind}
 use Rattle.message.specs.contracts.framing.Kind.{the_type}

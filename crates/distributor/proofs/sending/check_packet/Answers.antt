@@ -7,7 +7,7 @@ use Rattle.rules.specs.Table as Spec
 use Rattle.rules.specs.Verdict.{Verdict}
 use Rattle.distributor.specs.Outcomes.{Checks}
 use Rattle.distributor.proofs.CheckLaws.{six_first, by_place}
-use Rattle.distributor.proofs.Sendable.{alone, packet_by_alone}
+use Rattle.distributor.proofs.Sendable.{packet_by_alone}
 use Rattle.distributor.proofs.sending.check_packet.Goals as goal
 
 pub returns-then-not-is_up : goal.returns-then-not-is_up
