@@ -7,6 +7,7 @@ ghost use Rattle.keywrap.specs.Padding as Spec;
 use crate::limits::CIPHERTEXT;
 
 // Whether a ciphertext may have that length.
+#[tactic(auto, unfolding(crate::specs::Padding::length_fits))]
 pub(crate) fn length_fits(n: usize) -> bool
     ensures { result ≡ Spec.length_fits n }
 {
@@ -14,6 +15,7 @@ pub(crate) fn length_fits(n: usize) -> bool
 }
 
 // 0 where the constant of the AIV is there: its octets, each xored with what it should be.
+#[tactic(auto, using(crate::proofs::CodeLaws::mark_none))]
 fn constant_fault(x: &[u8]) -> u8
     requires { 16 ≤ length x.now }
     ensures { eqb result 0 ≡ Spec.constant_right x.now }
@@ -22,6 +24,7 @@ fn constant_fault(x: &[u8]) -> u8
 }
 
 // 0 where all is well, else 1.
+#[tactic(auto, using(crate::proofs::CodeLaws::fault_none, crate::proofs::CodeLaws::fault_fits))]
 fn fault(well: bool) -> u8
     ensures { eqb result 0 ≡ well }
 {
@@ -29,12 +32,14 @@ fn fault(well: bool) -> u8
 }
 
 // The message length indicator.
+#[tactic(auto, unfolding(crate::specs::Padding::mli))]
 pub(crate) fn mli(x: &[u8]) -> usize
     ensures { result ≡ Spec.mli x.now }
 {
     octets::number32(x, 4) as usize
 }
 
+#[tactic(auto, unfolding(crate::specs::Padding::mli_fits))]
 fn mli_fits(n: usize, m: usize) -> bool
     requires { (1 ≤ n) × (n ≤ 30) }
     ensures { result ≡ Spec.mli_fits n m }
@@ -43,6 +48,7 @@ fn mli_fits(n: usize, m: usize) -> bool
 }
 
 // The octet where it counts, else 0: no branch.
+#[tactic(auto, using(crate::proofs::CodeLaws::masked_product, crate::proofs::CodeLaws::masked_fits))]
 fn masked(kept: bool, a: u8) -> u8
     ensures { result ≡ Inner.masked kept a }
 {

@@ -29,6 +29,7 @@ pub(crate) fn load_schedule(key: &[u8], w: &mut [u8; 176])
 }
 
 // The length of the ciphertext of m octets.
+#[tactic(auto, unfolding(crate::specs::Padding::padding))]
 pub(crate) fn wrapped_length(m: usize) -> usize
     requires { m ≤ plaintext_most }
     ensures { result ≡ 8 + (m + Spec.padding m) }

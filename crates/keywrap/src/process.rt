@@ -8,6 +8,7 @@ ghost use Rattle.keywrap.specs.Padding as Padding;
 use crate::registers::{block, replace, xor_count};
 use aes::{decrypt_block, encrypt_block};
 
+#[tactic(auto, unfolding(crate::specs::KeyWrap::register_at, crate::specs::KeyWrap::register_count))]
 fn register(x: &[u8], t: u8) -> usize
     requires { (1 ≤ t) × (16 ≤ length x.now) }
     ensures { result ≡ Spec.register_at (Spec.register_count x.now) t }
