@@ -18,6 +18,7 @@ fn register(x: &[u8], t: u8) -> usize
 }
 
 // A and the register of step t through f.
+#[tactic(auto, using(crate::proofs::CodeLaws::in_reach), unfolding(crate::specs::KeyWrap::step))]
 fn step<F: Fn([u8; 16]) -> [u8; 16]>(t: u8, x: &mut [u8], f: F)
     requires { (1 ≤ t) × RegistersFit x.old × F.IsAlwaysCallable f }
     ensures { (b : List ℕ) × F.post f (Spec.block (Spec.register_at (Spec.register_count x.old) t) x.old) b × (x.new ≡ Spec.step t (λ _. b) x.old) }
@@ -27,6 +28,7 @@ fn step<F: Fn([u8; 16]) -> [u8; 16]>(t: u8, x: &mut [u8], f: F)
     replace(x, i, b);
 }
 
+#[tactic(auto, using(crate::proofs::CodeLaws::one_block, crate::proofs::CodeLaws::one_replaced), unfolding(crate::specs::Padding::wrap_registers, crate::specs::KeyWrap::register_count))]
 pub(crate) fn wrap_registers(w: &[u8; 176], x: &mut [u8])
     requires { (length x.old % 8 ≡ 0) × RegistersFit x.old }
     ensures { x.new ≡ Padding.wrap_registers w.now x.old }
@@ -58,6 +60,7 @@ pub(crate) fn wrap_steps(w: &[u8; 176], steps: u8, x: &mut [u8])
 }
 
 // Not one function with `wrap_registers`: it would take the cipher of one block and the steps, and be no shorter.
+#[tactic(auto, using(crate::proofs::CodeLaws::one_block, crate::proofs::CodeLaws::one_replaced), unfolding(crate::specs::Padding::unwrap_registers, crate::specs::KeyWrap::register_count))]
 pub(crate) fn unwrap_registers(w: &[u8; 176], x: &mut [u8])
     requires { (length x.old % 8 ≡ 0) × RegistersFit x.old }
     ensures { x.new ≡ Padding.unwrap_registers w.now x.old }

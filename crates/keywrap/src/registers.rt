@@ -14,6 +14,7 @@ pub(crate) fn block(x: &[u8], i: usize) -> [u8; 16]
 }
 
 // A block back into A and R[i].
+#[tactic(auto, using(crate::proofs::CodeLaws::put_both, crate::proofs::CodeLaws::second_half))]
 pub(crate) fn replace(x: &mut [u8], i: usize, b: [u8; 16])
     requires { (1 ≤ i) × (i < 32) × (8 * i + 8 ≤ length x.old) }
     ensures { x.new ≡ Spec.replaced i b x.old }

@@ -21,6 +21,7 @@ pub fn unwrap(key: &[u8], ciphertext: &[u8], out: &mut [u8]) -> Result<usize, Re
     unwrap_lent(key, ciphertext, out)
 }
 
+#[tactic(auto, using(crate::proofs::CallLaws::settled, crate::proofs::CallLaws::when_other_length, crate::proofs::CallLaws::not_fitting, crate::proofs::PaddingLaws::fitting_most))]
 fn unwrap_lent(key: &[u8], c: &[u8], out: &mut [u8]) -> Result<usize, Refusal>
     ensures { Writes (unwrapping key.now c.now (length out.old)) (Spec.unwrap key.now c.now) out.old out.new (answer_of result) }
 {
@@ -49,6 +50,7 @@ fn unwrap_in(w: &[u8; 176], c: &[u8], x: &mut [u8], out: &mut [u8]) -> Result<us
 }
 
 // What the registers hold, if they pass the checks.
+#[tactic(auto, using(crate::proofs::CallLaws::settled, crate::proofs::CallLaws::take_refused))]
 fn take_plaintext(x: &[u8], out: &mut [u8]) -> Result<usize, Refusal>
     requires { (length x.now % 8 ≡ 0) × RegistersFit x.now }
     ensures { Writes (taking x.now (length out.old)) (Spec.plaintext_in x.now) out.old out.new (answer_of result) }

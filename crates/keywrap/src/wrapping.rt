@@ -11,6 +11,7 @@ use crate::process::wrap_registers;
 use octets::Refusal;
 
 // Refusals 34; 33; 13.
+#[tactic(auto, using(crate::proofs::CallLaws::settled, crate::proofs::CallLaws::wrap_other_key, crate::proofs::CallLaws::wrap_other_length))]
 pub fn wrap(key: &[u8], plaintext: &[u8], out: &mut [u8]) -> Result<usize, Refusal>
     ensures { Writes (wrapping key.now plaintext.now (length out.old)) (Spec.wrap key.now plaintext.now) out.old out.new (answer_of result) }
 {

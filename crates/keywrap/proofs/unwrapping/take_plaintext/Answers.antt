@@ -12,13 +12,6 @@ use Rattle.keywrap.proofs.CallLaws.{settled, take_refused, take_no_room, take_ro
 use Rattle.keywrap.proofs.CodeLaws.{over_front}
 use Rattle.keywrap.proofs.unwrapping.take_plaintext.Goals as goal
 
-pub returns-then-not-verified : goal.returns-then-not-verified
-returns-then-not-verified c =
-    let a = c.args in
-    let x = a.x.now in
-    let v : verified x ≡ false = sym c.verified.ensures ∙ c.if-not-verified.true in
-    settled (refused 22) (plaintext_in x) a.out.now (take_refused x (length a.out.now) v)
-
 pub returns-then-out-m : goal.returns-then-out-m
 returns-then-out-m c =
     let a = c.args in

@@ -13,20 +13,6 @@ use Rattle.keywrap.proofs.CodeLaws.{relent}
 use Rattle.keywrap.proofs.CallLaws.{settled, when_other_length, not_fitting, when_fitting}
 use Rattle.keywrap.proofs.unwrapping.unwrap_lent.Goals as goal
 
-pub returns-then-key-ne-KEY : goal.returns-then-key-ne-KEY
-returns-then-key-ne-KEY c =
-    let a = c.args in
-    settled (refused 34) (unwrap a.key.now a.c.now) a.out.now (when_other_length a.key.now a.c.now (length a.out.now) c.if-key-ne-KEY.true)
-
-pub returns-then-not-length_fits : goal.returns-then-not-length_fits
-returns-then-not-length_fits c =
-    let a = c.args in
-    let f : length_fits (length a.c.now) ≡ false = sym c.length_fits.ensures ∙ c.if-not-length_fits.true in
-    settled (refused 22) (unwrap a.key.now a.c.now) a.out.now (not_fitting a.key.now a.c.now (length a.out.now) (omega arith) f)
-
-pub slice_bounds-x-end : goal.slice_bounds-x-end
-slice_bounds-x-end c = fitting_most (length c.args.c.now) (sym c.length_fits.ensures ∙ c.if-not-length_fits.false)
-
 pub slice_bounds-unwrap_in-end : goal.slice_bounds-unwrap_in-end
 slice_bounds-unwrap_in-end c =
     let n = length c.args.c.now in
@@ -47,9 +33,6 @@ slice_bounds-forget-end c =
 
 pub forget-requires : goal.forget-requires
 forget-requires c = let l = slice_bounds-forget-end c in (omega arith, omega arith)
-
-pub cleared-requires : goal.cleared-requires
-cleared-requires c = c.forget.ensures.0
 
 pub returns : goal.returns
 unfolding unwrap

@@ -15,21 +15,6 @@ use Rattle.keywrap.proofs.CallLaws.{settled, wrap_other_key, wrap_other_length, 
 use Rattle.keywrap.proofs.PaddingLaws.{initial_long}
 use Rattle.keywrap.proofs.wrapping.wrap.Goals as goal
 
-pub returns-then-key-ne-KEY : goal.returns-then-key-ne-KEY
-returns-then-key-ne-KEY c =
-    let a = c.args in
-    let key = a.key.now in
-    let p = a.plaintext.now in
-    settled (refused 34) (wrap key p) a.out.now (wrap_other_key key p (length a.out.now) c.if-key-ne-KEY.true)
-
-pub returns-then-not-within : goal.returns-then-not-within
-returns-then-not-within c =
-    let a = c.args in
-    let key = a.key.now in
-    let p = a.plaintext.now in
-    let w : within 1 plaintext_most (length p) ≡ false = sym c.within.ensures ∙ c.if-not-within.true in
-    settled (refused 33) (wrap key p) a.out.now (wrap_other_length key p (length a.out.now) (omega arith) w)
-
 pub wrapped_length-count-requires : goal.wrapped_length-count-requires
 wrapped_length-count-requires c =
     let p = c.args.plaintext.now in
@@ -45,9 +30,6 @@ returns-then-out-count c =
     let n : length (wrap key p) ≡ 8 + (length p + padding (length p)) = wrapped_long key (λ i. omega (arith, c.type_inv.key i)) p r.0 r.1 (λ i. omega (arith, c.type_inv.plaintext i)) in
     settled (refused 13) (wrap key p) a.out.now (wrap_no_room key p (length a.out.now) (omega arith) w (omega (arith, c.wrapped_length-count.ensures)))
 
-pub slice_bounds-wrap_into-end-2 : goal.slice_bounds-wrap_into-end-2
-slice_bounds-wrap_into-end-2 c = sym (length-take-le c.wrapped_length-count.result c.args.out.now c.if-out-count.false)
-
 pub wrap_into-left-requires : goal.wrap_into-left-requires
 wrap_into-left-requires c =
     let a = c.args in
@@ -58,9 +40,6 @@ wrap_into-left-requires c =
       r.1,
       length-take-le c.wrapped_length-count.result a.out.now c.if-out-count.false ∙ c.wrapped_length-count.ensures ∙ sym (initial_long p r.0 r.1),
     )
-
-pub overflow_add-result : goal.overflow_add-result
-overflow_add-result c = omega (arith, c.wrap_into-left.ensures.0, c.if-out-count.false)
 
 pub returns : goal.returns
 returns c =
