@@ -17,7 +17,6 @@ use borrow.Rule.Slice.PartMut.{put_mid}
 use Rattle.std.proofs.lemmas.List.{take_at, drop_at, drop-replicate}
 use Rattle.aes.specs.Field.{xor}
 use Rattle.aes.proofs.Xor.{sum_zero, sum_twice}
-use Rattle.octets.specs.Write.{over}
 use Rattle.keywrap.specs.Inner.{masked}
 use Rattle.keywrap.specs.KeyWrap.{register_count, block, register_at, replaced, xor_lists, octets64, xor_count, step, wrap_step, wrap_steps, unwrap_step, unwrap_steps}
 use Rattle.keywrap.specs.Limits.{plaintext_most, ciphertext_most}
@@ -81,7 +80,7 @@ count_last t (a ∷ b ∷ c ∷ d ∷ e ∷ f ∷ g ∷ i ∷ s) h l =
 
 -- ---- the frame
 
-pub aiv_short : (m : ℕ) → m ≤ plaintext_most → 0xa6 ∷ 0x59 ∷ 0x59 ∷ 0xa6 ∷ 0 ∷ 0 ∷ 0 ∷ m ∷ [] ≡ aiv m
+aiv_short : (m : ℕ) → m ≤ plaintext_most → 0xa6 ∷ 0x59 ∷ 0x59 ∷ 0xa6 ∷ 0 ∷ 0 ∷ 0 ∷ m ∷ [] ≡ aiv m
 unfolding aiv
 aiv_short m h =
     let z3 : m / 16777216 ≡ 0 = omega arith in
@@ -89,10 +88,6 @@ aiv_short m h =
     let z1 : m / 256 % 256 ≡ 0 = omega arith in
     let z0 : m % 256 ≡ m = omega arith in
     rw (z3, z2, z1, z0) refl
-
-aiv_long : (m : ℕ) → length (aiv m) ≡ 8
-unfolding aiv
-aiv_long m = refl
 
 pub zero_at : (n k : ℕ) → get_or {A = ℕ} (replicate n 0) k 0 ≡ 0
 zero_at zero k = refl
@@ -151,18 +146,11 @@ one_replaced b x l =
 
 -- ---- all of a slice, and what is left of one
 
-pub over_whole : (l q : List ℕ) → length q ≡ length l → over l 0 q ≡ q
-over_whole l q h =
-    ap (λ (y : List ℕ). q ++ y) (drop_of_length-le l {i = 0 + length q} (omega arith)) ∙ append-nil q
-
 pub tail : (x : List ℕ) (k : ℕ) → take (length x - k) (drop k x) ≡ drop k x
 tail x k = take_all (length x - k) (drop k x) (le_of_eq (length-drop k x))
 
 pub second_half : (b : List ℕ) → length b ≡ 16 → take 8 (drop 8 b) ≡ drop 8 b
 second_half b l = take_all 8 (drop 8 b) (let d : length (drop 8 b) ≡ length b - 8 = length-drop 8 b in omega arith)
-
-pub over_front : (l q : List ℕ) (m : ℕ) → length q ≡ m → over l 0 q ≡ q ++ drop m l
-over_front l q m e = let z : 0 + length q ≡ m = omega arith in ap (λ (k : ℕ). q ++ drop k l) z
 
 -- an array of which the front was lent has its length still
 pub relent : (p l : List ℕ) (n : ℕ) → length p ≡ n → n ≤ length l → length l ≡ length (p ++ drop n l)

@@ -44,7 +44,7 @@ fn unwrap_in(w: &[u8; 176], c: &[u8], x: &mut [u8], out: &mut [u8]) -> Result<us
     requires { (Spec.length_fits (length c.now) ≡ true) × (length x.old ≡ length c.now) }
     ensures { Writes (taking (Spec.unwrap_registers w.now c.now) (length out.old)) (Spec.plaintext_in (Spec.unwrap_registers w.now c.now)) out.old out.new (answer_of result) }
 {
-    octets::put_octets(x, 0, c);
+    x.copy_from_slice(c);
     unwrap_registers(w, x);
     take_plaintext(x, out)
 }
@@ -62,7 +62,7 @@ fn take_plaintext(x: &[u8], out: &mut [u8]) -> Result<usize, Refusal>
     if out.len() < m {
         return Err(Refusal::NoRoom);
     }
-    octets::put_octets(out, 0, &x[8..8 + m]);
+    out[..m].copy_from_slice(&x[8..8 + m]);
     Ok(m)
 }
 

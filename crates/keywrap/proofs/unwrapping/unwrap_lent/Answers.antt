@@ -1,16 +1,16 @@
 use Prim.Native.Nat.{ℕ}
 use mathlib.Core.Path.{◌≡◌, sym, ap, ◌∙◌}
-use mathlib.Core.Bool.{true, false}
+use mathlib.Core.Bool.{true}
 use mathlib.Core.List.{List}
 use native.Mathlib.Omega.{arith}
 use lib.ListN.{length, replicate}
 use lib.Seq.{length-take-le}
 use Rattle.keywrap.specs.Padding.{length_fits, unwrap_registers, plaintext_in, unwrap}
-use Rattle.keywrap.specs.Calls.{Answer, refused, unwrapping, output_after, answer_of}
+use Rattle.keywrap.specs.Calls.{Answer, unwrapping, output_after, answer_of}
 use Rattle.keywrap.specs.Inner.{taking}
 use Rattle.keywrap.proofs.PaddingLaws.{fitting_most}
 use Rattle.keywrap.proofs.CodeLaws.{relent}
-use Rattle.keywrap.proofs.CallLaws.{settled, when_other_length, not_fitting, when_fitting}
+use Rattle.keywrap.proofs.CallLaws.{when_fitting}
 use Rattle.keywrap.proofs.unwrapping.unwrap_lent.Goals as goal
 
 pub slice_bounds-unwrap_in-end : goal.slice_bounds-unwrap_in-end

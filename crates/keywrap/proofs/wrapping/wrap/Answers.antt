@@ -1,6 +1,6 @@
 use Prim.Native.Nat.{ℕ, ◌+◌}
 use mathlib.Core.Path.{◌≡◌, sym, ap, ◌∙◌}
-use mathlib.Core.Bool.{true, false}
+use mathlib.Core.Bool.{true}
 use mathlib.Core.List.{List, ◌++◌}
 use native.Mathlib.Omega.{arith}
 use lib.ListN.{length, drop}
@@ -11,7 +11,7 @@ use Rattle.keywrap.specs.Limits.{plaintext_most}
 use Rattle.keywrap.specs.Padding.{padding, wrap}
 use Rattle.keywrap.specs.Calls.{Answer, refused, written, output_after}
 use Rattle.keywrap.proofs.Accepted.{wrapped_long}
-use Rattle.keywrap.proofs.CallLaws.{settled, wrap_other_key, wrap_other_length, wrap_no_room, wrap_room}
+use Rattle.keywrap.proofs.CallLaws.{settled, wrap_no_room, wrap_room}
 use Rattle.keywrap.proofs.PaddingLaws.{initial_long}
 use Rattle.keywrap.proofs.wrapping.wrap.Goals as goal
 
