@@ -11,6 +11,7 @@ use std::io;
 // The longest output.
 const ROOM: usize = 256;
 
+// Closures, since the check has no name for another crate's function as a value.
 pub fn case(to: &mut impl io::Write, case: Case<'_>) -> io::Result<()> {
     match case.call() {
         b'w' => whole(to, case, |key, text, out| keywrap::wrap(key, text, out)),
