@@ -3,7 +3,7 @@
 // What a number is cut to, so that one more digit never overflows.
 const CUT: usize = 1000000000000;
 
-// The number at the front of a text: its digits as far as they go, or 0.
+// The number at the front of a text: its digits as far as they go, or 0. By hand, since `parse` refuses what is too long.
 pub fn decimal(text: &[u8]) -> usize {
     let digits = text.iter().take_while(|c| c.is_ascii_digit());
     digits.fold(0, |n, c| n % CUT * 10 + (c % 16) as usize)
