@@ -1,4 +1,5 @@
 // The parts of a packet with a tag, lent from the packet itself. A part that is not there is empty.
+// Bounds of an answer, refused or not, and no Option: C is answered 0 to 0 where there is no such part.
 ghost use Rattle.std.specs.Prelude.{◌≡◌};
 ghost use Rattle.ekt.specs.Splitting.{answer_of};
 ghost use Rattle.ekt.specs.Parts as Spec;

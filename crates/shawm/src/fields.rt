@@ -6,7 +6,7 @@ ghost use Rattle.shawm.specs.Fields.{field_bounds};
 
 use octets::{Bounds, NOWHERE};
 
-// The bounds of the field with this number.
+// The bounds of the field with this number, one of C's.
 #[tactic(auto, unfolding(crate::specs::Fields::field_bounds, crate::specs::Fields::numbered_bounds))]
 fn field_bounds(s: &[u8], field: u32) -> Bounds
     ensures { result ≡ field_bounds s.now field }

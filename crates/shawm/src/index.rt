@@ -24,7 +24,7 @@ pub extern "C" fn shawm_index_estimate(roc: u32, highest: u16, sequence: u16) ->
     answer.map_or_else(refused, |_| 0)
 }
 
-// Its index; 0 where it is refused.
+// Its index; 0 where it is refused, as C has no Option.
 #[unsafe(no_mangle)]
 pub extern "C" fn shawm_index_number(roc: u32, highest: u16, sequence: u16) -> u64
     ensures { result ≡ index_number (Estimating.estimating (stream_of roc highest) sequence) }

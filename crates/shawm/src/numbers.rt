@@ -1,4 +1,4 @@
-// The numbers that a message holds: 16 version, 17 profile.
+// The numbers that a message holds, by C's numbers: 16 version, 17 profile.
 ghost use Rattle.std.specs.Prelude.{◌≡◌};
 ghost use Rattle.message.specs.Read.{reading};
 ghost use Rattle.shawm.specs.Numbers.{number_in, field_number};

@@ -8,7 +8,7 @@ ghost use Rattle.shawm.specs.Reading.{read_number, taken_by};
 use crate::refusal::refused;
 use message::Fields;
 
-// The type of a message with these fields.
+// The type of a message with these fields, as C has it.
 #[tactic(auto, unfolding(message::specs::Parts::meaning))]
 fn type_number(fields: Fields) -> u32
     ensures { (s : List ℕ) → result ≡ type_of (meaning s fields) }

@@ -1,4 +1,4 @@
-// The kind of a packet as a number.
+// The kind of a packet as a number, one of C's: one that was given stays.
 ghost use Rattle.std.specs.Prelude.{◌≡◌};
 ghost use Rattle.demux.specs.Sorting.{sorting};
 ghost use Rattle.shawm.specs.Sorting.{kind_number, sort_number};

@@ -18,7 +18,7 @@ fn tag_type(tag: Tag) -> u32
     }
 }
 
-// The bounds of the part with this number.
+// The bounds of the part with this number, one of C's.
 #[tactic(auto, unfolding(crate::specs::Tag::part_bounds))]
 fn part_bounds(packet: &[u8], part: u32) -> Bounds
     ensures { result ≡ Spec.part_bounds (splitting packet.now) part }
