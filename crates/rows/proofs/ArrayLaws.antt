@@ -4,7 +4,7 @@ use mathlib.Core.Path.{◌≡◌, sym, ap, ◌∙◌}
 use mathlib.Core.List.{List}
 use native.Mathlib.Omega.{arith}
 use native.Mathlib.Nat.{le_refl}
-use lib.ListN.{length, length-take, length-replicate, replicate, take, drop}
+use lib.ListN.{length, length-replicate, replicate, take, drop}
 use lib.Seq.{take_all, length-take-le}
 use Rattle.octets.specs.Part.{part}
 use Rattle.octets.specs.Write.{over, put}

@@ -1,6 +1,5 @@
 use mathlib.Core.Path.{refl, ap, ◌∙◌}
 use native.Mathlib.Omega.{arith}
-use borrow.Author.Rules.{rules}
 use Rattle.rules.specs.Limits.{places}
 use Rattle.rules.specs.Index.{place_at_spot}
 use Rattle.rules.specs.Table.{place_of_endpoint}
