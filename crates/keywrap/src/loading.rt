@@ -2,30 +2,19 @@
 // octets 0 behind it.
 ghost use Rattle.std.specs.Prelude.{◌≡◌, ◌+◌, ◌≤◌, ◌<◌, length};
 ghost use Rattle.aes.specs.KeyExpansion.{key_expansion};
-ghost use Rattle.keywrap.specs.Limits.{key_length, plaintext_most};
+ghost use Rattle.keywrap.specs.Limits.{plaintext_most};
 ghost use Rattle.keywrap.specs.Padding as Spec;
 
 use crate::limits::KEY;
 use aes::expand;
 
-// The schedule of a key.
-pub(crate) fn schedule(key: &[u8]) -> [u8; 176]
-    requires { length key.now ≡ key_length }
-    ensures { result ≡ key_expansion key.now }
-{
-    let mut k = [0; KEY];
-    k.copy_from_slice(key);
-    expand(k)
-}
-
-// The same, put where the caller keeps it. What is copied on the way lies in this function's own stretch of the stack,
-// which its next call overwrites.
+// The schedule of a key, put where the caller keeps it. What is copied on the way lies in this function's own stretch of the
+// stack, which its next call overwrites.
 #[inline(never)]
-pub(crate) fn load_schedule(key: &[u8], w: &mut [u8; 176])
-    requires { length key.now ≡ key_length }
+pub(crate) fn load_schedule(key: &[u8; KEY], w: &mut [u8; 176])
     ensures { w.new ≡ key_expansion key.now }
 {
-    *w = schedule(key);
+    *w = expand(*key);
 }
 
 // The length of the ciphertext of m octets.

@@ -7,7 +7,7 @@ ghost use Rattle.keywrap.specs.Padding as Spec;
 
 use crate::checks::{length_fits, mli, verified};
 use crate::clearing::forget;
-use crate::limits::{CIPHERTEXT, KEY};
+use crate::limits::CIPHERTEXT;
 use crate::loading::load_schedule;
 use crate::process::unwrap_registers;
 use octets::Refusal;
@@ -25,9 +25,9 @@ pub fn unwrap(key: &[u8], ciphertext: &[u8], out: &mut [u8]) -> Result<usize, Re
 fn unwrap_lent(key: &[u8], c: &[u8], out: &mut [u8]) -> Result<usize, Refusal>
     ensures { Writes (unwrapping key.now c.now (length out.old)) (Spec.unwrap key.now c.now) out.old out.new (answer_of result) }
 {
-    if key.len() != KEY {
+    let Some(key) = key.as_array() else {
         return Err(Refusal::EktKeyOrSaltLength);
-    }
+    };
     if !length_fits(c.len()) {
         return Err(Refusal::BadCiphertext);
     }

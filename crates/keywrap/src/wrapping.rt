@@ -1,7 +1,7 @@
 // Wrapping: a plaintext becomes the ciphertext at the front of the output.
 ghost use Rattle.std.specs.Prelude.{◌≡◌, ◌≤◌, length};
 ghost use Rattle.keywrap.specs.Calls.{wrapping, Writes, answer_of};
-ghost use Rattle.keywrap.specs.Limits.{key_length, plaintext_most};
+ghost use Rattle.keywrap.specs.Limits.{plaintext_most};
 ghost use Rattle.keywrap.specs.Padding as Spec;
 
 use crate::clearing::forget;
@@ -15,9 +15,9 @@ use octets::Refusal;
 pub fn wrap(key: &[u8], plaintext: &[u8], out: &mut [u8]) -> Result<usize, Refusal>
     ensures { Writes (wrapping key.now plaintext.now (length out.old)) (Spec.wrap key.now plaintext.now) out.old out.new (answer_of result) }
 {
-    if key.len() != KEY {
+    let Some(key) = key.as_array() else {
         return Err(Refusal::EktKeyOrSaltLength);
-    }
+    };
     if !octets::within(1, MOST, plaintext.len()) {
         return Err(Refusal::PlaintextLength);
     }
@@ -31,8 +31,8 @@ pub fn wrap(key: &[u8], plaintext: &[u8], out: &mut [u8]) -> Result<usize, Refus
 
 // In an output of just the ciphertext's length, which holds the registers meanwhile. The answer is 0, by
 // `forget`, which has space of its own to work in.
-fn wrap_into(key: &[u8], plaintext: &[u8], x: &mut [u8]) -> u8
-    requires { (length key.now ≡ key_length) × (1 ≤ length plaintext.now) × (length plaintext.now ≤ plaintext_most) × (length x.old ≡ length (Spec.initial_registers plaintext.now)) }
+fn wrap_into(key: &[u8; KEY], plaintext: &[u8], x: &mut [u8]) -> u8
+    requires { (1 ≤ length plaintext.now) × (length plaintext.now ≤ plaintext_most) × (length x.old ≡ length (Spec.initial_registers plaintext.now)) }
     ensures { (result ≡ 0) × (x.new ≡ Spec.wrap key.now plaintext.now) }
 {
     load(plaintext, x);

@@ -5,6 +5,7 @@ use mathlib.Core.List.{List}
 use native.Mathlib.Omega.{arith}
 use lib.ListN.{length, replicate}
 use lib.Seq.{length-take-le}
+use Rattle.aes.specs.KeyExpansion.{key_expansion}
 use Rattle.keywrap.specs.Padding.{length_fits, unwrap_registers, plaintext_in, unwrap}
 use Rattle.keywrap.specs.Calls.{Answer, unwrapping, output_after, answer_of}
 use Rattle.keywrap.specs.Inner.{taking}
@@ -41,9 +42,10 @@ returns c =
     let k = a.c.now in
     let o = a.out.now in
     let f : length_fits (length k) ≡ true = sym c.length_fits.ensures ∙ c.if-not-length_fits.false in
-    let t = ap (λ (w : List ℕ). taking (unwrap_registers w k) (length o)) c.load_schedule.ensures ∙ sym (when_fitting a.key.now k (length o) (omega arith) f) in (
+    let s = c.load_schedule.ensures ∙ ap key_expansion c.in-Some.ensures.cases.same in
+    let t = ap (λ (w : List ℕ). taking (unwrap_registers w k) (length o)) s ∙ sym (when_fitting a.key.now k (length o) c.in-Some.ensures.cases.long f) in (
       ap answer_of c.cleared.ensures ∙ c.unwrap_in-answer.ensures.0 ∙ t,
       c.unwrap_in-answer.ensures.1
           ∙ ap (λ (v : Answer). output_after v (plaintext_in (unwrap_registers c.load_schedule.new.w k)) o) t
-          ∙ ap (λ (w : List ℕ). output_after (unwrapping a.key.now k (length o)) (plaintext_in (unwrap_registers w k)) o) c.load_schedule.ensures,
+          ∙ ap (λ (w : List ℕ). output_after (unwrapping a.key.now k (length o)) (plaintext_in (unwrap_registers w k)) o) s,
     )

@@ -28,14 +28,13 @@ returns-then-out-count c =
     let w : within 1 plaintext_most (length p) ≡ true = sym c.within.ensures ∙ c.if-not-within.false in
     let r = within_true 1 plaintext_most (length p) w in
     let n : length (wrap key p) ≡ 8 + (length p + padding (length p)) = wrapped_long key (λ i. omega (arith, c.type_inv.key i)) p r.0 r.1 (λ i. omega (arith, c.type_inv.plaintext i)) in
-    settled (refused 13) (wrap key p) a.out.now (wrap_no_room key p (length a.out.now) (omega arith) w (omega (arith, c.wrapped_length-count.ensures)))
+    settled (refused 13) (wrap key p) a.out.now (wrap_no_room key p (length a.out.now) c.in-Some.ensures.cases.long w (omega (arith, c.wrapped_length-count.ensures)))
 
 pub wrap_into-left-requires : goal.wrap_into-left-requires
 wrap_into-left-requires c =
     let a = c.args in
     let p = a.plaintext.now in
     let r = within_true 1 plaintext_most (length p) (sym c.within.ensures ∙ c.if-not-within.false) in (
-      omega arith,
       r.0,
       r.1,
       length-take-le c.wrapped_length-count.result a.out.now c.if-out-count.false ∙ c.wrapped_length-count.ensures ∙ sym (initial_long p r.0 r.1),
@@ -54,8 +53,8 @@ returns c =
     let e : m ≡ length (wrap key p) = c.wrapped_length-count.ensures ∙ sym n in
     let z = c.wrap_into-left.ensures.0 in
     let k : m + c.wrap_into-left.result ≡ length (wrap key p) = omega arith in
-    let f = wrap_room key p (length o) (omega arith) w (omega (arith, c.if-out-count.false)) in (
+    let f = wrap_room key p (length o) c.in-Some.ensures.cases.long w (omega (arith, c.if-out-count.false)) in (
       ap written k ∙ sym f,
-      ap (λ (y : List ℕ). y ++ drop m o) c.wrap_into-left.ensures.1 ∙ ap (λ (i : ℕ). wrap key p ++ drop i o) e
+      ap (λ (y : List ℕ). y ++ drop m o) (c.wrap_into-left.ensures.1 ∙ ap (λ (k : List ℕ). wrap k p) c.in-Some.ensures.cases.same) ∙ ap (λ (i : ℕ). wrap key p ++ drop i o) e
           ∙ ap (λ (v : Answer). output_after v (wrap key p) o) (sym f),
     )
