@@ -4,7 +4,7 @@ use mathlib.Core.Path.{◌≡◌, refl}
 use mathlib.Core.Bool.{Bool, true, false, cond}
 use borrow.Author.Tests.{ltb-true, ltb-false}
 use lib.Dec.{ltb}
-use Rattle.std.specs.Prelude.{Option, Some, None, is_some}
+use Rattle.std.specs.Prelude.{Option, Some, None}
 use Rattle.rules.specs.Limits.{places}
 use Rattle.block.specs.InTable.{in_table}
 
@@ -21,10 +21,3 @@ not_there p e = go (ltb p places) None refl e refl
     go : (b : Bool) (o : Option ℕ) → ltb p places ≡ b → cond b (Some p) None ≡ o → o ≡ None → places ≤ p
     go true o h e f = cc
     go false o h e f = ltb-false p places h
-
-pub is_there : (p : ℕ) → is_some (in_table p) ≡ ltb p places
-is_there p = go (ltb p places)
-  where
-    go : (b : Bool) → is_some (cond b (Some p) None) ≡ b
-    go true = refl
-    go false = refl

@@ -1,10 +1,9 @@
 // The search for an endpoint in the index: the endpoints of the live rows, rising, and beside them the rows' places.
-ghost use Rattle.std.specs.Prelude.{◌≡◌, cond, leb, ◌-◌, ◌≤◌, ◌<◌};
+ghost use Rattle.std.specs.Prelude.{◌≡◌, cond, leb, ◌-◌, ◌≤◌, ◌<◌, unwrap_or};
 ghost use Rattle.rules.specs.Limits as Limits;
 ghost use Rattle.rules.specs.Halving as Halving;
 ghost use Rattle.rules.specs.Index as Spec;
 ghost use Rattle.rules.specs.Table as Table;
-ghost use Rattle.block.specs.InTable as InTable;
 ghost use Rattle.block.specs.Spots.{spot_of};
 
 use crate::layout::{BLOCK, HALVINGS, INDEX, INDEX_ENDPOINTS, INDEX_PLACES, PLACES};
@@ -16,7 +15,8 @@ pub struct Halved {
     pub looked: usize,
 }
 
-// The place of an endpoint's row; and the rounds that the search took, each of which compared one stored endpoint.
+// The place of an endpoint's row, as the index has it: a number of the table on every block that calls lead to. And the rounds
+// that the search took, each of which compared one stored endpoint.
 #[derive(Clone, Copy)]
 pub struct Lookup {
     pub place: Option<usize>,
@@ -88,15 +88,8 @@ fn nearest(state: &[u8; BLOCK], endpoint: u32, n: usize) -> Halved
     halve(state, endpoint, n)
 }
 
-// What is no place is none.
-fn in_table(place: usize) -> Option<usize>
-    ensures { result ≡ InTable.in_table place }
-{
-    if place < PLACES { Some(place) } else { None }
-}
-
 pub fn place_of_endpoint(state: &[u8; BLOCK], endpoint: u32) -> Lookup
-    ensures { (result.place ≡ InTable.in_table (Table.place_of_endpoint state.now endpoint)) × (result.rounds ≡ Halving.rounds_for Limits.rounds (Spec.count_of state.now)) × (result.rounds ≤ Limits.rounds) }
+    ensures { (unwrap_or result.place Limits.places ≡ Table.place_of_endpoint state.now endpoint) × (result.rounds ≡ Halving.rounds_for Limits.rounds (Spec.count_of state.now)) × (result.rounds ≤ Limits.rounds) }
 {
     let n = count(state);
     if n == 0 {
@@ -109,7 +102,7 @@ pub fn place_of_endpoint(state: &[u8; BLOCK], endpoint: u32) -> Lookup
     let at = near.at;
     let rounds = near.looked + 1;
     if endpoint_at(state, at) == endpoint {
-        let place = in_table(place_at(state, at));
+        let place = Some(place_at(state, at));
         return Lookup { place, rounds };
     }
     Lookup {
@@ -149,5 +142,8 @@ pub(crate) fn spot_of(state: &[u8; BLOCK], endpoint: u32) -> Result<usize, usize
 pub fn is_served(state: &[u8; BLOCK], endpoint: u32) -> bool
     ensures { result ≡ Table.serves state.now endpoint }
 {
-    place_of_endpoint(state, endpoint).place.is_some()
+    match place_of_endpoint(state, endpoint).place {
+        Some(place) => place < PLACES,
+        None => false,
+    }
 }

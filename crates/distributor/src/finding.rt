@@ -2,7 +2,7 @@
 ghost use Rattle.rules.specs.Table as Spec;
 ghost use Rattle.distributor.specs.Outcomes.{Found};
 
-use block::{BLOCK, place_of_endpoint, place_of_identifier};
+use block::{BLOCK, PLACES, place_of_endpoint, place_of_identifier};
 use octets::Refusal;
 
 pub(crate) fn place_named(state: &[u8; BLOCK], identifier: &[u8]) -> Result<usize, Refusal>
@@ -14,7 +14,8 @@ pub(crate) fn place_named(state: &[u8; BLOCK], identifier: &[u8]) -> Result<usiz
 pub(crate) fn place_served(state: &[u8; BLOCK], endpoint: u32) -> Result<usize, Refusal>
     ensures { Found (Spec.place_of_endpoint state.now endpoint) result }
 {
-    place_of_endpoint(state, endpoint)
-        .place
-        .ok_or(Refusal::NoAssociation)
+    match place_of_endpoint(state, endpoint).place {
+        Some(place) if place < PLACES => Ok(place),
+        _ => Err(Refusal::NoAssociation),
+    }
 }

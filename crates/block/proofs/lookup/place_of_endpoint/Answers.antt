@@ -1,10 +1,9 @@
-use mathlib.Core.Path.{refl, ap, ◌∙◌}
+use mathlib.Core.Path.{refl, ◌∙◌}
 use native.Mathlib.Omega.{arith}
 use Rattle.rules.specs.Limits.{places}
 use Rattle.rules.specs.Index.{place_at_spot}
 use Rattle.rules.specs.Table.{place_of_endpoint}
 use Rattle.rules.proofs.IndexLaws.{count_within}
-use Rattle.block.specs.InTable.{in_table}
 use Rattle.block.proofs.SpotLaws as Spots
 use Rattle.block.proofs.lookup.place_of_endpoint.Goals as goal
 
@@ -12,7 +11,7 @@ pub returns-then-n-eq0 : goal.returns-then-n-eq0
 returns-then-n-eq0 c =
     let s = c.args.state.now in
     let r = Spots.rounds_none s c.args.endpoint _ c.count-n.ensures c.if-n-eq0.true in
-    (ap in_table (Spots.missing_place s c.args.endpoint 0 (Spots.spot_none s c.args.endpoint _ c.count-n.ensures c.if-n-eq0.true)), r, Spots.rounds_few s 0 r)
+    (Spots.missing_place s c.args.endpoint 0 (Spots.spot_none s c.args.endpoint _ c.count-n.ensures c.if-n-eq0.true), r, Spots.rounds_few s 0 r)
 
 pub nearest-near-requires : goal.nearest-near-requires
 nearest-near-requires c =
@@ -33,10 +32,9 @@ returns-then-endpoint_at-endpoint c =
     let n = c.count-n in
     let s = c.args.state.now in
     let r = Spots.rounds_some s c.args.endpoint n.result _ n.ensures (omega (arith, c.if-n-eq0.false)) c.nearest-near.ensures.1 in (
-      c.in_table-place.ensures
-          ∙ ap in_table (c.place_at.ensures ∙ Spots.here_place s c.args.endpoint _
+      c.place_at.ensures ∙ Spots.here_place s c.args.endpoint _
           (Spots.spot_here s c.args.endpoint n.result _ n.ensures (omega (arith, c.if-n-eq0.false)) c.nearest-near.ensures.0
-          c.endpoint_at.result c.endpoint_at.ensures c.if-endpoint_at-endpoint.true)),
+          c.endpoint_at.result c.endpoint_at.ensures c.if-endpoint_at-endpoint.true),
       r,
       Spots.rounds_few s _ r,
     )
@@ -47,8 +45,8 @@ returns c =
     let n = c.count-n in
     let s = c.args.state.now in
     let r = Spots.rounds_some s c.args.endpoint n.result _ n.ensures (omega (arith, c.if-n-eq0.false)) c.nearest-near.ensures.1 in (
-      ap in_table (Spots.spot_missing s c.args.endpoint n.result _ n.ensures (omega (arith, c.if-n-eq0.false)) c.nearest-near.ensures.0
-          c.endpoint_at.result c.endpoint_at.ensures c.if-endpoint_at-endpoint.false (place_at_spot s) places (λ i. refl)),
+      Spots.spot_missing s c.args.endpoint n.result _ n.ensures (omega (arith, c.if-n-eq0.false)) c.nearest-near.ensures.0
+          c.endpoint_at.result c.endpoint_at.ensures c.if-endpoint_at-endpoint.false (place_at_spot s) places (λ i. refl),
       r,
       Spots.rounds_few s _ r,
     )
