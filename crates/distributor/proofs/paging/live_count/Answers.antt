@@ -10,9 +10,6 @@ use Rattle.distributor.proofs.paging.live_count.Goals.{then-state_at, else-state
 pub loop-place-init : goal.loop-place-init
 loop-place-init c = (omega arith, sym (ap length (first_none (shown_to c.args.state.now c.args.shown))))
 
-pub overflow_add-n : goal.overflow_add-n
-overflow_add-n c = omega arith
-
 pub loop-place-preserved : goal.loop-place-preserved
 loop-place-preserved c =
     let a = c.args in
