@@ -4,6 +4,7 @@ ghost use Rattle.rules.specs.Limits as Limits;
 ghost use Rattle.rules.specs.Halving as Halving;
 ghost use Rattle.rules.specs.Index as Spec;
 ghost use Rattle.rules.specs.Table as Table;
+ghost use Rattle.block.specs.InTable.{found_at};
 ghost use Rattle.block.specs.Spots.{spot_of};
 
 use crate::layout::{BLOCK, HALVINGS, INDEX, INDEX_ENDPOINTS, INDEX_PLACES, PLACES};
@@ -89,7 +90,7 @@ fn nearest(state: &[u8; BLOCK], endpoint: u32, n: usize) -> Halved
 }
 
 pub fn place_of_endpoint(state: &[u8; BLOCK], endpoint: u32) -> Lookup
-    ensures { (unwrap_or result.place Limits.places ≡ Table.place_of_endpoint state.now endpoint) × (result.rounds ≡ Halving.rounds_for Limits.rounds (Spec.count_of state.now)) × (result.rounds ≤ Limits.rounds) }
+    ensures { (unwrap_or result.place Limits.places ≡ Table.place_of_endpoint state.now endpoint) × (result.rounds ≡ Halving.rounds_for Limits.rounds (Spec.count_of state.now)) × (result.rounds ≤ Limits.rounds) × (result.place ≡ found_at state.now (Spec.spot state.now endpoint)) }
 {
     let n = count(state);
     if n == 0 {
