@@ -66,16 +66,15 @@ fn halve(state: &[u8; BLOCK], endpoint: u32, n: usize) -> Halved
 {
     let mut lo = 0;
     let mut left = n;
-    for _looked in 0..HALVINGS {
+    let mut looked = 0;
+    for _turn in 0..HALVINGS {
         let half = left / 2;
         let middle = lo + half;
         lo = nearer(endpoint_at(state, middle), endpoint, lo, middle);
         left -= half;
+        looked += 1;
     }
-    Halved {
-        at: lo,
-        looked: HALVINGS,
-    }
+    Halved { at: lo, looked }
 }
 
 // One endpoint needs no halving.
@@ -143,8 +142,7 @@ pub(crate) fn spot_of(state: &[u8; BLOCK], endpoint: u32) -> Result<usize, usize
 pub fn is_served(state: &[u8; BLOCK], endpoint: u32) -> bool
     ensures { result ≡ Table.serves state.now endpoint }
 {
-    match place_of_endpoint(state, endpoint).place {
-        Some(place) => place < PLACES,
-        None => false,
-    }
+    place_of_endpoint(state, endpoint)
+        .place
+        .is_some_and(|place| place < PLACES)
 }

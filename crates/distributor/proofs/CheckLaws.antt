@@ -38,8 +38,8 @@ place_left place None e = rw (le-ltb place places (not_there place (sym e))) ref
 place_left place (Some at) e = let t = there place at (sym e) in rw (lt-ltb place places t.0) (refl, t.1)
 
 -- refusal 6 comes before another one
-pub six_first : (known : Bool) (n m : ℕ) (v : Verdict) → m ≡ cond known n 6 → refusal n ≡ v → refusal m ≡ refuse (not known) 6 v
-six_first true n m v e h = ap refusal e ∙ h
+pub six_first : (known : Bool) (n m : ℕ) (v : Verdict) → m ≡ cond known n 6 → (known ≡ true → refusal n ≡ v) → refusal m ≡ refuse (not known) 6 v
+six_first true n m v e h = ap refusal e ∙ h refl
 six_first false n m v e h = ap refusal e
 
 -- refusal 11 comes before 12, where one search was made for both

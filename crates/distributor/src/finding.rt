@@ -14,8 +14,8 @@ pub(crate) fn place_named(state: &[u8; BLOCK], identifier: &[u8]) -> Result<usiz
 pub(crate) fn place_served(state: &[u8; BLOCK], endpoint: u32) -> Result<usize, Refusal>
     ensures { Found (Spec.place_of_endpoint state.now endpoint) result }
 {
-    match place_of_endpoint(state, endpoint).place {
-        Some(place) if place < PLACES => Ok(place),
-        _ => Err(Refusal::NoAssociation),
-    }
+    place_of_endpoint(state, endpoint)
+        .place
+        .filter(|place| *place < PLACES)
+        .ok_or(Refusal::NoAssociation)
 }

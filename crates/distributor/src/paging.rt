@@ -29,7 +29,7 @@ fn shown_rows(state: &[u8; BLOCK]) -> usize
     0
 }
 
-// The state as its octet: two comparisons of it are all that a page needs.
+// The state as its octet, of which the rules of a page speak (`shown_as`): `State` would be no plainer, told back at each test.
 fn state_at(state: &[u8; BLOCK], place: usize) -> u8
     ensures { result ≡ Layout.state_of (Layout.row_of state.now place) }
 {
@@ -61,7 +61,7 @@ fn page_octets(count: usize) -> usize
     requires { count ≤ places }
     ensures { result ≡ octets_for (page_bits count) }
 {
-    (COUNT_BITS + count * ENTRY_BITS + 7) / 8
+    (COUNT_BITS + count * ENTRY_BITS).div_ceil(8)
 }
 
 // Place and state of a live place as one number; 1 is keyed.

@@ -20,10 +20,7 @@ use rows::layout::IDENTIFIER;
 fn is_dtls(packet: &[u8]) -> bool
     ensures { not result ≡ not_dtls packet.now }
 {
-    match demux::sort(packet) {
-        Ok(kind) => kind == Kind::Dtls,
-        Err(_) => false,
-    }
+    demux::sort(packet).is_ok_and(|kind| kind == Kind::Dtls)
 }
 
 // A packet by itself.

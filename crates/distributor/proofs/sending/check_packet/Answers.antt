@@ -30,4 +30,4 @@ returns-in-Err c =
     let size : length a.state.now ≡ block_length = search rules in
     let u : up a.state.now ≡ true = sym c.is_up.ensures ∙ c.if-not-is_up.false in
     let e = packet_by_alone a.state.now size a.endpoint a.packet.now a.room u in
-    (size, six_first (Spec.serves a.state.now a.endpoint) _ _ _ c.earlier.ensures c.in-Err.ensures ∙ sym e)
+    (size, six_first (Spec.serves a.state.now a.endpoint) _ _ _ c.earlier.ensures (λ h. c.in-Err.ensures) ∙ sym e)
