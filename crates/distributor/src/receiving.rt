@@ -112,10 +112,7 @@ fn take_message(state: &mut [u8; BLOCK], s: &[u8], message: Message) -> Result<R
 {
     let taken = message.taken;
     match message.fields {
-        Fields::SupportedProfiles {
-            version: _,
-            list_length: _,
-        } => Err(Refusal::WrongDirection),
+        Fields::SupportedProfiles { .. } => Err(Refusal::WrongDirection),
         Fields::UnsupportedVersion { version } => {
             put_down(state);
             Ok(Received::Version { version, taken })
