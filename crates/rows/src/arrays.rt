@@ -3,15 +3,15 @@ ghost use Rattle.std.specs.Prelude.{◌≡◌, ◌+◌};
 ghost use Rattle.octets.specs.Part.{part};
 ghost use Rattle.rules.specs.Layout.{padded};
 
-// A whole array is one move, which a compiler keeps in registers.
+// Eight octets at a time, which a compiler moves as one number; so it can keep whole arrays in registers.
 pub fn array<const N: usize>(s: &[u8], at: usize) -> [u8; N]
     ensures { result ≡ padded N (part s.now at (at + N)) }
 {
     let tail = octets::part(s, at, s.len());
-    if let Some(whole) = tail.first_chunk::<N>() {
-        return *whole;
-    }
     let mut a = [0; N];
-    octets::put_octets(&mut a, 0, tail);
+    for k in 0..N / 8 {
+        octets::put_octets(&mut a, 8 * k, octets::part(tail, 8 * k, 8 * k + 8));
+    }
+    octets::put_octets(&mut a, N / 8 * 8, octets::part(tail, N / 8 * 8, N));
     a
 }
