@@ -9,9 +9,10 @@ pub fn decimal(text: &[u8]) -> usize {
     digits.fold(0, |n, c| n % CUT * 10 + (c % 16) as usize)
 }
 
-// A line's last number, or as many before it; 0 where there is none. A line begins with a word.
+// A line's last number, or as many before it; 0 where there is none. What a line begins with is never one.
 pub fn number(line: &[u8], back: usize) -> usize {
-    let words = line.rsplit(|&c| c == b' ' || c == b'=');
+    let mut words = line.rsplit(|&c| c == b' ' || c == b'=');
+    words.next_back();
     let mut numbers = words.filter(|word| word.first().is_some_and(|c| c.is_ascii_digit()));
     numbers.nth(back).map_or(0, decimal)
 }

@@ -3,7 +3,6 @@
 use crate::table::Table;
 use crate::{blocks, index, keys, pages, profiles, reading, sorting, tags, writing};
 use lines::{numbers, pieces, rows};
-use std::alloc::Global;
 use std::{fmt, io};
 
 const CALL: usize = 8;
@@ -61,13 +60,14 @@ impl<'a> Case<'a> {
 }
 
 // The first line is a heading.
-pub fn run(alloc: Global, to: &mut impl io::Write, cases: &[u8]) -> io::Result<()> {
+pub fn run(to: &mut impl io::Write, cases: &[u8]) -> io::Result<()> {
     let mut table = Table::new();
+    let mut space = [0; OCTETS];
     for line in cases.split(|&c| c == b'\n').skip(1) {
-        let given = rows::read(alloc, pieces::before(line, b']'), OCTETS)?;
+        let count = rows::read(pieces::before(line, b']'), &mut space);
         let case = Case {
             line,
-            given: &given,
+            given: octets::part(&space, 0, count),
         };
         ask(to, &mut table, case)?;
     }

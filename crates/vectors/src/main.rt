@@ -26,5 +26,5 @@ use std::io::Read;
 fn main(rt: HostRuntime) -> io::Result<()> {
     let mut text = Vec::new(rt.alloc());
     rt.stdin().read_to_end(&mut text)?;
-    cases::run(rt.alloc(), &mut rt.stdout(), &text)
+    cases::run(&mut rt.stdout(), &text)
 }
