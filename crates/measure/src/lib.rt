@@ -10,7 +10,7 @@ use octets::Refusal;
 const REFUSED: u64 = 0x1_0000_0000;
 
 fn refused(refusal: Refusal) -> u64 {
-    REFUSED + u8::from(refusal) as u64
+    REFUSED + u64::from(u8::from(refusal))
 }
 
 // A count of octets, or a place.
@@ -63,7 +63,7 @@ pub extern "C" fn measure_octets(state: &mut [u8; BLOCK], s: &[u8], more: &mut [
         Ok(Received::MoreNeeded) => 0,
         Ok(Received::KeysStored { endpoint, taken }) => {
             more[0] = 0;
-            more[1] = endpoint as u64;
+            more[1] = u64::from(endpoint);
             taken as u64
         }
         Ok(
@@ -73,18 +73,18 @@ pub extern "C" fn measure_octets(state: &mut [u8; BLOCK], s: &[u8], more: &mut [
                 taken,
             },
         ) => {
-            more[0] = 65536 + endpoint as u64;
+            more[0] = 65536 + u64::from(endpoint);
             more[1] = dtls.start as u64;
             more[2] = dtls.end as u64;
             taken as u64
         }
         Ok(Received::Disconnected { endpoint, taken }) => {
             more[0] = 1;
-            more[1] = endpoint as u64;
+            more[1] = u64::from(endpoint);
             taken as u64
         }
         Ok(Received::Version { version, taken }) => {
-            more[0] = 2 + version as u64;
+            more[0] = 2 + u64::from(version);
             taken as u64
         }
     }
@@ -165,9 +165,9 @@ fn hand_over(record: Record, out: &mut [u8; RECORD]) {
 pub extern "C" fn measure_look(state: &[u8; BLOCK], endpoint: u32, out: &mut [u8; RECORD]) -> u64 {
     match distributor::look(state, endpoint) {
         Ok(record) => {
-            let e = record.endpoint;
+            let endpoint = record.endpoint;
             hand_over(record, out);
-            e as u64
+            u64::from(endpoint)
         }
         Err(refusal) => refused(refusal),
     }
@@ -176,23 +176,17 @@ pub extern "C" fn measure_look(state: &[u8; BLOCK], endpoint: u32, out: &mut [u8
 // The key schedule of AES-128.
 #[unsafe(no_mangle)]
 pub extern "C" fn measure_expand(key: &[u8; 16], w: &mut [u8; 176]) {
-    let k = *key;
-    let schedule = aes::expand(k);
-    *w = schedule;
+    *w = aes::expand(*key);
 }
 
 // A block in place, enciphered with a schedule.
 #[unsafe(no_mangle)]
 pub extern "C" fn measure_encrypt(w: &[u8; 176], block: &mut [u8; 16]) {
-    let b = *block;
-    let c = aes::encrypt_block(w, b);
-    *block = c;
+    *block = aes::encrypt_block(w, *block);
 }
 
 // A block in place, deciphered with a schedule.
 #[unsafe(no_mangle)]
 pub extern "C" fn measure_decrypt(w: &[u8; 176], block: &mut [u8; 16]) {
-    let b = *block;
-    let c = aes::decrypt_block(w, b);
-    *block = c;
+    *block = aes::decrypt_block(w, *block);
 }

@@ -37,8 +37,7 @@ fn write(output: &mut impl Write, answer: &[u8]) -> Result<()> {
     output.flush().context(UNWRITTEN)
 }
 
-// One request; false where there is none. The block and the room for a request and for its answer are lent one by one:
-// a struct's fields can't be lent at once behind a reference to it.
+// One request; false where there is none.
 fn turn(
     input: &mut impl Read,
     output: &mut impl Write,
@@ -50,17 +49,17 @@ fn turn(
     if !fill(input, &mut head)? {
         return Ok(false);
     }
-    let n = u16::from_be_bytes(head);
-    let count = if FRAME_LIMIT < n as usize {
-        if !skip(input, frame, n as usize)? {
+    let n = usize::from(u16::from_be_bytes(head));
+    let count = if FRAME_LIMIT < n {
+        if !skip(input, frame, n)? {
             return Ok(false);
         }
         service::too_long(out)
     } else {
-        if !fill(input, &mut frame[..n as usize])? {
+        if !fill(input, &mut frame[..n])? {
             return Ok(false);
         }
-        service::serve_one(state, octets::part(frame, 0, n as usize), out)
+        service::serve_one(state, octets::part(frame, 0, n), out)
     };
     write(output, octets::part(out, 0, count))?;
     Ok(true)
