@@ -10,7 +10,8 @@ use crate::limits::{ANSWER, FRAME_LIMIT};
 use crate::{answers, associations, receiving, writing};
 use distributor::BLOCK;
 
-// By the kind, and what is behind the kind octet.
+// By the kind, and what is behind the kind octet. The block, the body and the output stay three parameters: a struct would
+// lend the block to be changed to those, too, that only read it.
 #[tactic(auto, using(crate::proofs::RequestLaws::keeps))]
 fn serve_kind(state: &mut [u8; BLOCK], kind: Kind, body: &[u8], out: &mut [u8; ANSWER]) -> usize
     requires { length body.now ≤ room }

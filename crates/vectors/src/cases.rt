@@ -10,6 +10,7 @@ const CALL: usize = 8;
 // The most octets of a case.
 const OCTETS: usize = 65600;
 
+// The output stands beside a case wherever one is written: with it inside, a case could not be copied.
 #[derive(Clone, Copy)]
 pub struct Case<'a> {
     line: &'a [u8],
