@@ -13,7 +13,7 @@ use octets::Refusal;
 pub type KeyLengths = Keys<u8>;
 
 // The numbers and lengths of a message's fields; `bounds_of` tells where they stand.
-#[derive(Clone, Copy, Debug, PartialEq, Eq)]
+#[derive(Clone, Copy)]
 pub enum Fields {
     SupportedProfiles { version: u8, list_length: u16 },
     UnsupportedVersion { version: u8 },

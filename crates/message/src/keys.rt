@@ -1,5 +1,6 @@
-// What there is for each of the key fields of MediaKeys.
-#[derive(Clone, Copy, Debug, PartialEq, Eq)]
+// What there is for each of the key fields of MediaKeys. No Debug and no ==, as it may be keys: what is printed is told, and
+// == ends at the first octet that differs.
+#[derive(Clone, Copy)]
 pub struct Keys<T> {
     pub mki: T,
     pub client_key: T,

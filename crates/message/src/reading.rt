@@ -11,7 +11,7 @@ use crate::limits::HEADER;
 use octets::Refusal;
 
 // A message that was read, and the octets that it took.
-#[derive(Clone, Copy, Debug, PartialEq, Eq)]
+#[derive(Clone, Copy)]
 pub struct Message {
     pub fields: Fields,
     pub taken: usize,

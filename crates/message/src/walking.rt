@@ -3,7 +3,8 @@
 ghost use Rattle.std.specs.Prelude.{◌≡◌, true};
 ghost use Rattle.message.specs.Walk as Spec;
 
-// Past n octets where all was good, these are and they end within the body.
+// Past n octets where all was good, these are and they end within the body. Beside a test,
+// as in specs/Walk.antt: an Option of n is no plainer for its two callers.
 #[tactic(auto, unfolding(crate::specs::Walk::past))]
 fn past(body_length: usize, good: bool, n: usize, at: usize) -> Result<usize, usize>
     ensures { Spec.walk_of result ≡ Spec.past body_length good n (Spec.walk_at true at) }
