@@ -10,6 +10,7 @@ use crate::circuit::{inv_affine, sub_byte};
 use crate::field::{inv_mix_octet, mix_octet};
 use std::array::from_fn;
 
+// Not one function with `inv_affines` over the rule: that would be no shorter, one line each.
 pub(crate) fn sub_bytes(s: [u8; 16]) -> [u8; 16]
     ensures { result ≡ sub_bytes s }
 {
