@@ -17,7 +17,8 @@ fn register(x: &[u8], t: u8) -> usize
     (t as usize - 1) % n + 1
 }
 
-// A and the register of step t through f.
+// A and the register of step t through f. No struct of lent registers for what `RegistersFit` says: they are the caller's
+// array, and a struct to lend on is no plainer.
 #[tactic(auto, using(crate::proofs::CodeLaws::in_reach), unfolding(crate::specs::KeyWrap::step))]
 fn step<F: Fn([u8; 16]) -> [u8; 16]>(t: u8, x: &mut [u8], f: F)
     requires { (1 ≤ t) × RegistersFit x.old × F.IsAlwaysCallable f }
