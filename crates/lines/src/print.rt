@@ -1,4 +1,7 @@
 // How octets and answers are written in a line.
+ghost use Rattle.std.specs.Prelude.{Some};
+ghost use Rattle.lines.specs.Print.{yes_or_no};
+
 use std::fmt;
 
 // The longest part whose octets are written out; of a longer one a reader wants the length.
@@ -49,6 +52,8 @@ impl fmt::Display for Number16 {
 pub struct YesOrNo(pub bool);
 
 impl fmt::Display for YesOrNo {
+    ghost output = { λ answer. Some (yes_or_no answer) };
+
     fn fmt<W: fmt::Write>(&self, f: &mut fmt::Formatter<W>) -> fmt::Result {
         f.write_str(if self.0 { "yes" } else { "no" })
     }
