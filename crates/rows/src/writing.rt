@@ -28,8 +28,7 @@ fn write_open(row: &mut [u8], identifier: &[u8], endpoint: u32)
     requires { length row.old ≡ Spec.row_length }
     ensures { row.new ≡ Spec.open_row identifier.now endpoint }
 {
-    octets::put_number16(row, ENDPOINT, (endpoint / 65536) as u16);
-    octets::put_number16(row, ENDPOINT + 2, (endpoint % 65536) as u16);
+    octets::put_octets(row, ENDPOINT, &endpoint.to_be_bytes());
     pad(row, IDENTIFIER, WIDTH, identifier);
     octets::put_octet(row, STATE, State::Open as u8);
     pad(row, PROFILE, ROW - PROFILE, b"");
