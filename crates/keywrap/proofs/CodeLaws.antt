@@ -94,13 +94,34 @@ zero_at zero k = refl
 zero_at (suc n) zero = refl
 zero_at (suc n) (suc k) = zero_at n k
 
-pub put_frame : (p : List ℕ) (n : ℕ) → length p ≤ plaintext_most → n ≡ 8 + (length p + padding (length p))
-    → put_mid 8 (length p) ((0xa6 ∷ 0x59 ∷ 0x59 ∷ 0xa6 ∷ 0 ∷ 0 ∷ 0 ∷ length p ∷ []) ++ drop 8 (replicate n 0)) p ≡ initial_registers p
+pub last_cleared : (x q : List ℕ) → 8 ≤ length x → q ≡ replicate 8 0 → put_mid (length x - 8) (length x - (length x - 8)) x q ≡ take (length x - 8) x ++ replicate 8 0
+last_cleared x q h e =
+    let n = length x in
+    let a : length (drop (n - 8) x) ≤ n - (n - 8) = omega (arith, length-drop (n - 8) x) in
+    ap (λ (y : List ℕ). take (n - 8) x ++ (q ++ y)) (drop_of_length-le (drop (n - 8) x) a)
+    ∙ ap (λ (y : List ℕ). take (n - 8) x ++ y) (append-nil q ∙ e)
+
+pub last_long : (x q : List ℕ) → 8 ≤ length x → q ≡ replicate 8 0 → length (put_mid (length x - 8) (length x - (length x - 8)) x q) ≡ length x
+last_long x q h e =
+    let a = length-append (take (length x - 8) x) (replicate {A = ℕ} 8 0) in
+    let b = length-take-le (length x - 8) x (omega arith) in
+    let c : length (put_mid (length x - 8) (length x - (length x - 8)) x q) ≡ length (take (length x - 8) x ++ replicate {A = ℕ} 8 0) = ap length (last_cleared x q h e) in
+    let d : length (replicate {A = ℕ} 8 0) ≡ 8 = refl in
+    omega (arith, a, b, c, d)
+
+pub put_frame : (p x : List ℕ) (n : ℕ) → length p ≤ plaintext_most → n ≡ length x → n ≡ 8 + (length p + padding (length p)) → padding (length p) < 8
+    → put_mid 8 (length p) ((0xa6 ∷ 0x59 ∷ 0x59 ∷ 0xa6 ∷ 0 ∷ 0 ∷ 0 ∷ length p ∷ []) ++ drop 8 (take (n - 8) x ++ replicate 8 0)) p ≡ initial_registers p
 unfolding initial_registers
-put_frame p n h e =
-    let k : n - 8 - length p ≡ padding (length p) = omega arith in
-    ap (λ (y : List ℕ). (0xa6 ∷ 0x59 ∷ 0x59 ∷ 0xa6 ∷ 0 ∷ 0 ∷ 0 ∷ length p ∷ []) ++ (p ++ y))
-    (ap (drop (length p)) (drop-replicate {X = ℕ} 8 n 0) ∙ drop-replicate {X = ℕ} (length p) (n - 8) 0 ∙ ap (λ (j : ℕ). replicate {A = ℕ} j 0) k)
+put_frame p x n h l e f =
+    let front : List ℕ = take (n - 8) x in
+    let k : length front ≡ n - 8 = length-take-le (n - 8) x (omega arith) in
+    let d : 8 + length p ≡ length front + (8 - padding (length p)) = omega arith in
+    let b : 8 - (8 - padding (length p)) ≡ padding (length p) = omega arith in
+    let z : drop (length p) (drop 8 (front ++ replicate {A = ℕ} 8 0)) ≡ replicate (padding (length p)) 0 =
+    drop-drop (length p) 8 (front ++ replicate {A = ℕ} 8 0) ∙ ap (λ (j : ℕ). drop j (front ++ replicate {A = ℕ} 8 0)) d
+    ∙ drop-append-add front (replicate {A = ℕ} 8 0) (8 - padding (length p)) ∙ drop-replicate {X = ℕ} (8 - padding (length p)) 8 0
+    ∙ ap (λ (j : ℕ). replicate {A = ℕ} j 0) b in
+    ap (λ (y : List ℕ). (0xa6 ∷ 0x59 ∷ 0x59 ∷ 0xa6 ∷ 0 ∷ 0 ∷ 0 ∷ length p ∷ []) ++ (p ++ y)) z
     ∙ ap (λ (a : List ℕ). a ++ (p ++ replicate (padding (length p)) 0)) (aiv_short (length p) h)
 
 -- ---- the register of a step is there

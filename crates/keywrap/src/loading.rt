@@ -32,7 +32,9 @@ pub(crate) fn load(plaintext: &[u8], x: &mut [u8])
     ensures { x.new ≡ Spec.initial_registers plaintext.now }
 {
     let m = plaintext.len();
-    x.fill(0);
+    // The padding is in the last register. To fill all of x, C's memset would be called.
+    let last = x.len() - 8;
+    x[last..].copy_from_slice(&[0; 8]);
     x[..8].copy_from_slice(&[0xa6, 0x59, 0x59, 0xa6, 0, 0, 0, m as u8]);
     x[8..8 + m].copy_from_slice(plaintext);
 }
