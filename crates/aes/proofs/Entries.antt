@@ -4,12 +4,12 @@ use mathlib.Core.Path.{◌≡◌, refl, sym, ap, ap₂, ◌∙◌}
 use mathlib.Core.List.{List}
 use native.Mathlib.Omega.{arith}
 use lib.ListN.{length, get_or, take, drop}
-use lib.Seq.{get_or-take, get_or-drop}
+use lib.Seq.{get_or-take, get_or-drop, ext_get_or}
 use Rattle.aes.specs.Field.{xor, sub_byte, inv_affine}
 use Rattle.aes.specs.State.{at, state_by, sub_bytes, shift_rows, inv_shift_rows, row_times, mixed, add_round_key}
 use Rattle.aes.specs.KeyExpansion.{round_key}
-use Rattle.aes.specs.Columns.{inv_affines, next_rows, mixed_turns}
-use Rattle.aes.proofs.StateLaws.{at_state, state_same, state_long}
+use Rattle.aes.specs.Columns.{inv_affines, next_rows}
+use Rattle.aes.proofs.StateLaws.{at_state, state_long}
 
 -- the place of an octet is its row and its column
 
@@ -23,6 +23,22 @@ octet_of f i h = place (state_by f) i ∙ at_state f (i % 4) (i / 4) (omega arit
 at_place : (s : List ℕ) (r c i : ℕ) → r + 4 * c ≡ i → at s r c ≡ get_or s i 0
 unfolding at
 at_place s r c i e = ap (λ (k : ℕ). get_or s k 0) e
+
+-- the turns of the columns
+
+at_next : (s : List ℕ) (r c : ℕ) → r < 4 → c < 4 → at (next_rows s) r c ≡ at s ((r + 1) % 4) c
+unfolding next_rows
+at_next s r c hr hc = at_state (λ r c. at s ((r + 1) % 4) c) r c hr hc
+
+second : (s : List ℕ) (r c : ℕ) → r < 4 → c < 4 → at (next_rows (next_rows s)) r c ≡ at s ((r + 2) % 4) c
+second s r c hr hc =
+    at_next (next_rows s) r c hr hc ∙ at_next s ((r + 1) % 4) c (omega arith) hc
+    ∙ ap (λ (k : ℕ). at s k c) (omega arith)
+
+third : (s : List ℕ) (r c : ℕ) → r < 4 → c < 4 → at (next_rows (next_rows (next_rows s))) r c ≡ at s ((r + 3) % 4) c
+third s r c hr hc =
+    at_next (next_rows (next_rows s)) r c hr hc ∙ second s ((r + 1) % 4) c (omega arith) hc
+    ∙ ap (λ (k : ℕ). at s k c) (omega arith)
 
 module _ (s : List ℕ) (i : ℕ) (h : i < 16) where
   pub sub_at : get_or (sub_bytes s) i 0 ≡ sub_byte (get_or s i 0)
@@ -51,37 +67,22 @@ module _ (s : List ℕ) (i : ℕ) (h : i < 16) where
   unfolding next_rows
   next_at = octet_of (λ r c. at s ((r + 1) % 4) c) i h ∙ at_place s ((i % 4 + 1) % 4) (i / 4) (i / 4 * 4 + (i + 1) % 4) (omega arith)
 
-  pub turns_at : (j k l m : ℕ) (a b d : List ℕ)
-      → get_or (mixed_turns j k l m s a b d) i 0 ≡ row_times j k l m (get_or s i 0) (get_or a i 0) (get_or b i 0) (get_or d i 0)
-  unfolding mixed_turns
-  turns_at j k l m a b d =
-      octet_of (λ r c. row_times j k l m (at s r c) (at a r c) (at b r c) (at d r c)) i h
-      ∙ rw (← place s i, ← place a i, ← place b i, ← place d i)
-
--- the four turns of the columns are what the matrices want
-
-at_next : (s : List ℕ) (r c : ℕ) → r < 4 → c < 4 → at (next_rows s) r c ≡ at s ((r + 1) % 4) c
-unfolding next_rows
-at_next s r c hr hc = at_state (λ r c. at s ((r + 1) % 4) c) r c hr hc
-
-second : (s : List ℕ) (r c : ℕ) → r < 4 → c < 4 → at (next_rows (next_rows s)) r c ≡ at s ((r + 2) % 4) c
-second s r c hr hc =
-    at_next (next_rows s) r c hr hc ∙ at_next s ((r + 1) % 4) c (omega arith) hc
-    ∙ ap (λ (k : ℕ). at s k c) (omega arith)
-
-third : (s : List ℕ) (r c : ℕ) → r < 4 → c < 4 → at (next_rows (next_rows (next_rows s))) r c ≡ at s ((r + 3) % 4) c
-third s r c hr hc =
-    at_next (next_rows (next_rows s)) r c hr hc ∙ second s ((r + 1) % 4) c (omega arith) hc
-    ∙ ap (λ (k : ℕ). at s k c) (omega arith)
-
-module _ (j k l m : ℕ) (s : List ℕ) where
-  pub turns_mixed : mixed_turns j k l m s (next_rows s) (next_rows (next_rows s)) (next_rows (next_rows (next_rows s))) ≡ mixed j k l m s
-  unfolding mixed_turns mixed
-  turns_mixed =
-      state_same
-      (λ r c. row_times j k l m (at s r c) (at (next_rows s) r c) (at (next_rows (next_rows s)) r c) (at (next_rows (next_rows (next_rows s))) r c))
-      (λ r c. row_times j k l m (at s r c) (at s ((r + 1) % 4) c) (at s ((r + 2) % 4) c) (at s ((r + 3) % 4) c))
-      (λ r c hr hc. rw (at_next s r c hr hc, second s r c hr hc, third s r c hr hc) refl)
+  -- from the octets of the state's own column, each of which the next rows bring to place i
+  mixed_at : (j k l m : ℕ)
+      → get_or (mixed j k l m s) i 0
+      ≡ row_times j k l m (get_or s i 0) (get_or (next_rows s) i 0) (get_or (next_rows (next_rows s)) i 0) (get_or (next_rows (next_rows (next_rows s))) i 0)
+  unfolding mixed
+  mixed_at j k l m =
+      octet_of (λ r c. row_times j k l m (at s r c) (at s ((r + 1) % 4) c) (at s ((r + 2) % 4) c) (at s ((r + 3) % 4) c)) i h
+      ∙ rw (
+        place (next_rows (next_rows (next_rows s))) i,
+        place (next_rows (next_rows s)) i,
+        place (next_rows s) i,
+        place s i,
+        third s (i % 4) (i / 4) (omega arith) (omega arith),
+        second s (i % 4) (i / 4) (omega arith) (omega arith),
+        at_next s (i % 4) (i / 4) (omega arith) (omega arith),
+      ) refl
 
 -- every transformed state has 16 octets
 
@@ -105,9 +106,18 @@ pub next_long : (s : List ℕ) → length (next_rows s) ≡ 16
 unfolding next_rows
 next_long s = state_long (λ r c. at s ((r + 1) % 4) c)
 
-pub turns_long : (j k l m : ℕ) (s a b d : List ℕ) → length (mixed_turns j k l m s a b d) ≡ 16
-unfolding mixed_turns
-turns_long j k l m s a b d = state_long (λ r c. row_times j k l m (at s r c) (at a r c) (at b r c) (at d r c))
+mixed_long : (j k l m : ℕ) (s : List ℕ) → length (mixed j k l m s) ≡ 16
+unfolding mixed
+mixed_long j k l m s =
+    state_long (λ r c. row_times j k l m (at s r c) (at s ((r + 1) % 4) c) (at s ((r + 2) % 4) c) (at s ((r + 3) % 4) c))
+
+-- what a matrix makes of a state, octet by octet
+pub mixed_whole : (j k l m : ℕ) (s r : List ℕ) → length r ≡ 16
+    → ((i : ℕ) → i < 16 → get_or r i 0 ≡ row_times j k l m (get_or s i 0) (get_or (next_rows s) i 0) (get_or (next_rows (next_rows s)) i 0) (get_or (next_rows (next_rows (next_rows s))) i 0))
+    → r ≡ mixed j k l m s
+mixed_whole j k l m s r long e =
+    ext_get_or 0 r (mixed j k l m s) (long ∙ sym (mixed_long j k l m s))
+    (λ i h. let b : i < 16 = omega (arith, long) in e i b ∙ sym (mixed_at s i b j k l m))
 
 pub add_long : (s k : List ℕ) → length (add_round_key s k) ≡ 16
 unfolding add_round_key

@@ -7,7 +7,7 @@ pub mod Mix
 pub mod StateLaws
 pub mod Steps
 pub mod Entries
-pub mod Filled
+pub mod Made
 pub mod Rcon
 pub mod ScheduleLaws
 pub mod Inverse

@@ -1,24 +1,23 @@
 -- The octets of the key schedule.
 use Prim.Native.Nat.{ℕ, zero, suc, ◌+◌, ◌*◌, ◌-◌, ◌/◌, ◌%◌, ◌<◌, ◌≤◌}
-use mathlib.Core.Path.{◌≡◌, refl, sym, ap, subst, ◌∙◌}
+use mathlib.Core.Path.{◌≡◌, refl, sym, ◌∙◌}
 use mathlib.Core.Bool.{Bool, true, false, cond}
-use mathlib.Core.List.{List, [], ◌∷◌, ◌++◌}
+use mathlib.Core.List.{List, [], ◌∷◌, ◌++◌, append_assoc}
 use native.Mathlib.Omega.{arith}
 use native.Mathlib.Numerals.{add-one}
-use borrow.Author.Tests.{ltb-true, ltb-false, eq-eqb, ne_eqb}
-use lib.Dec.{eqb, ltb}
-use lib.ListN.{length, get_or, set, take, drop, length-append, get_or-append}
-use lib.Seq.{get_or-append-add, take_all, take-append-le, take-suc, take-suc-set}
+use borrow.Author.Tests.{eq-eqb, ne_eqb}
+use lib.Dec.{eqb}
+use lib.ListN.{length, get_or, set, take, drop, length-set}
+use lib.Seq.{get_or-take, take-suc-set}
 use Rattle.octets.specs.Number.{Octets}
 use Rattle.octets.proofs.OctetLaws.{four_octets, append_octets, take_octets, drop_octets}
 use Rattle.aes.specs.Field.{xor, sub_byte}
 use Rattle.aes.specs.KeyExpansion.{word_octet, word, sub_word, rot_word, xor_words, power, rcon, temp, next_word, longer, schedule, key_expansion, round_key}
-use Rattle.aes.specs.Cipher.{inv_round, inv_rounds}
+use Rattle.aes.specs.Cipher.{round, rounds, inv_round, inv_rounds}
 use Rattle.aes.proofs.Xor.{sum_lt, sum_zero}
 use Rattle.aes.proofs.Xtime.{mul_lt}
 use Rattle.aes.proofs.SBox.{sub_lt}
 use Rattle.aes.proofs.StateLaws.{by_four}
-use Rattle.aes.proofs.Filled.{Filled, more, before}
 
 power_lt : (n : ℕ) → power n < 256
 unfolding power
@@ -92,12 +91,17 @@ key_octets w n o = take_octets 16 (drop (16 * n) w) (drop_octets (16 * n) w o)
 
 -- ---- rounds
 
+pub rounds_more : (w : List ℕ) (n : ℕ) (s : List ℕ) → 1 ≤ n → round w n (rounds w (n - 1) s) ≡ rounds w n s
+unfolding rounds
+rounds_more w zero s h = absurd (omega arith)
+rounds_more w (suc n) s h = let e : suc n - 1 ≡ n = omega arith in rw e
+
 pub inv_rounds_less : (w : List ℕ) (n : ℕ) (t : List ℕ) → 0 < n → inv_rounds w n t ≡ inv_rounds w (n - 1) (inv_round w n t)
 unfolding inv_rounds
 inv_rounds_less w zero t h = absurd (omega arith)
 inv_rounds_less w (suc n) t h = let e : suc n - 1 ≡ n = omega arith in rw e
 
--- ---- each octet of the schedule, from those before it
+-- ---- the schedule, as the loop makes it
 
 -- an octet asks only for those before its word
 next_same : (v w : List ℕ) (i j : ℕ) → 4 ≤ i → j < 4 → ((k : ℕ) → k < 4 * i → get_or v k 0 ≡ get_or w k 0) → next_octet v i j ≡ next_octet w i j
@@ -105,87 +109,46 @@ unfolding next_octet temp_octet word_octet
 next_same v w i j hi hj e =
     rw (e (4 * (i - 4) + j) (omega arith), e (4 * (i - 1) + (j + 1) % 4) (omega arith), e (4 * (i - 1) + j) (omega arith))
 
-pub schedule_long : (n : ℕ) (key : List ℕ) → length key ≡ 16 → length (schedule n key) ≡ 16 + 4 * n
-unfolding schedule longer next_word xor_words
-schedule_long zero key h = h
-schedule_long (suc n) key h =
-    length-append (schedule n key) (next_word (schedule n key) (4 + n)) ∙ (let l : length (schedule n key) ≡ 16 + 4 * n = schedule_long n key h in omega arith)
+-- and so does a word
+next_taken : (w : List ℕ) (i : ℕ) → 4 ≤ i → next_word (take (4 * i) w) i ≡ next_word w i
+next_taken w i h =
+    let s = λ (j : ℕ) (hj : j < 4). next_same (take (4 * i) w) w i j h hj (λ k l. get_or-take (4 * i) w k 0 l) in
+    next_octets (take (4 * i) w) i
+    ∙ rw (s 0 (omega arith), s 1 (omega arith), s 2 (omega arith), s 3 (omega arith)) (sym (next_octets w i))
 
-word_octet_lem : (w : List ℕ) (i j : ℕ) → j < 4 → get_or (next_word w i) j 0 ≡ next_octet w i j
-word_octet_lem w i j h =
-    ap (λ (v : List ℕ). get_or v j 0) (next_octets w i) ∙ by_four (λ (x : ℕ). get_or (next_octet w i 0 ∷ next_octet w i 1 ∷ next_octet w i 2 ∷ next_octet w i 3 ∷ []) x 0 ≡ next_octet w i x) refl refl refl refl j h
+-- a word by its octets
+all_four : (w : List ℕ) (i : ℕ) → (get_or (next_word w i) 0 0 ∷ get_or (next_word w i) 1 0 ∷ get_or (next_word w i) 2 0 ∷ get_or (next_word w i) 3 0 ∷ []) ≡ next_word w i
+unfolding next_word xor_words
+all_four w i = refl
 
-module _ (key : List ℕ) (long : length key ≡ 16) where
-  kept : (n k : ℕ) → k < 16 + 4 * n → get_or (schedule (suc n) key) k 0 ≡ get_or (schedule n key) k 0
-  unfolding schedule longer
-  kept n k h =
-      let l : length (schedule n key) ≡ 16 + 4 * n = schedule_long n key long in
-      get_or-append (schedule n key) (next_word (schedule n key) (4 + n)) 0 k (omega arith)
+next_set : (w : List ℕ) (n m x : ℕ) → n < length w → m ≡ n + 1 → take m (set w n x) ≡ take n w ++ x ∷ []
+next_set w n m x h e = rw (e, add-one n) (take-suc-set w n x h)
 
-  last : (n j : ℕ) → j < 4 → get_or (schedule (suc n) key) (16 + 4 * n + j) 0 ≡ next_octet (schedule n key) (4 + n) j
-  unfolding schedule longer
-  last n j h =
-      rw (← schedule_long n key long)
-      (get_or-append-add (schedule n key) (next_word (schedule n key) (4 + n)) j 0) ∙ word_octet_lem (schedule n key) (4 + n) j h
+four_set : (w : List ℕ) (n a b c d : ℕ) → n + 4 ≤ length w
+    → take (n + 4) (set (set (set (set w n a) (n + 1) b) (n + 2) c) (n + 3) d) ≡ take n w ++ (a ∷ b ∷ c ∷ d ∷ [])
+four_set w n a b c d h =
+    let s = set w n a in
+    let t = set s (n + 1) b in
+    let u = set t (n + 2) c in
+    let ls : length s ≡ length w = length-set w n a in
+    let lt : length t ≡ length w = length-set s (n + 1) b ∙ ls in
+    let lu : length u ≡ length w = length-set t (n + 2) c ∙ lt in
+    next_set u (n + 3) (n + 4) d (omega arith) (omega arith)
+    ∙ rw (
+      next_set t (n + 2) (n + 3) c (omega arith) (omega arith),
+      next_set s (n + 1) (n + 2) b (omega arith) (omega arith),
+      next_set w n (n + 1) a (omega arith) refl,
+    ) (simp append_assoc)
 
-  recurrence : (n i j : ℕ) → 4 ≤ i → i < 4 + n → j < 4 → get_or (schedule n key) (4 * i + j) 0 ≡ next_octet (schedule n key) i j
-  recurrence zero i j hi hn hj = absurd (omega arith)
-  recurrence (suc n) i j hi hn hj = go (ltb i (4 + n)) refl (recurrence n i j hi)
-    where
-      go : (b : Bool) → ltb i (4 + n) ≡ b → (i < 4 + n → j < 4 → get_or (schedule n key) (4 * i + j) 0 ≡ next_octet (schedule n key) i j)
-          → get_or (schedule (suc n) key) (4 * i + j) 0 ≡ next_octet (schedule (suc n) key) i j
-      go true t r =
-          let l : i < 4 + n = ltb-true i (4 + n) t in
-          kept n (4 * i + j) (omega arith) ∙ r l hj ∙ sym (next_same (schedule (suc n) key) (schedule n key) i j hi hj (λ k h. kept n k (omega arith)))
-      go false t r =
-          let e : i ≡ 4 + n = let g : 4 + n ≤ i = ltb-false i (4 + n) t in omega arith in
-          let f : 4 * i + j ≡ 16 + 4 * n + j = omega arith in
-          rw (f, last n j hj, ← e) (sym (next_same (schedule (suc n) key) (schedule n key) i j hi hj (λ k h. kept n k (omega arith))))
-
-  -- the key stands in front
-  pub in_front : (n k : ℕ) → k < 16 → get_or (schedule n key) k 0 ≡ get_or key k 0
-  unfolding schedule
-  in_front zero k h = refl
-  in_front (suc n) k h = kept n k (omega arith) ∙ in_front n k h
-
--- ---- the schedule of a key, as the loop fills it
-
-expansion_at : (key w : List ℕ) (i j : ℕ) → length key ≡ 16 → Filled 176 (key_expansion key) w (4 * i) → 4 ≤ i → i < 44 → j < 4
-    → next_octet w i j ≡ get_or (key_expansion key) (4 * i + j) 0
-unfolding key_expansion
-expansion_at key w i j long f hi h hj =
-    next_same w (schedule 40 key) i j hi hj (λ k l. before f k l) ∙ sym (recurrence key long 40 i j hi (omega arith) hj)
-
--- the loop starts with the key
-
-front : (n : ℕ) (key : List ℕ) → length key ≡ 16 → take 16 (schedule n key) ≡ key
+pub one_longer : (key w v : List ℕ) (i : ℕ) → length w ≡ 176 → 4 ≤ i → i < 44 → take (4 * i) w ≡ schedule (i - 4) key → v ≡ next_word w i
+    → take (4 * (i + 1)) (set (set (set (set w (4 * i) (get_or v 0 0)) (4 * i + 1) (get_or v 1 0)) (4 * i + 2) (get_or v 2 0)) (4 * i + 3) (get_or v 3 0))
+    ≡ schedule (i + 1 - 4) key
 unfolding schedule longer
-front zero key h = take_all 16 key (omega arith)
-front (suc n) key h =
-    take-append-le 16 (schedule n key) (next_word (schedule n key) (4 + n)) (let l : length (schedule n key) ≡ 16 + 4 * n = schedule_long n key h in omega arith)
-    ∙ front n key h
-
-pub key_stored : (key w : List ℕ) → length key ≡ 16 → length w ≡ 176 → take 16 w ≡ key → Filled 176 (key_expansion key) w 16
-unfolding key_expansion
-key_stored key w h l e = record { bound = omega arith; goal_long = schedule_long 40 key h; long = l; same = e ∙ sym (front 40 key h) }
-
--- and stores a word at each turn
-
-pub word_stored : (key w : List ℕ) (i : ℕ) (v : List ℕ) → length key ≡ 16 → 4 ≤ i → i < 44 → Filled 176 (key_expansion key) w (4 * i) → v ≡ next_word w i
-    → Filled 176 (key_expansion key)
-    (set (set (set (set w (4 * i) (get_or v 0 0)) (4 * i + 1) (get_or v 1 0)) (4 * i + 2) (get_or v 2 0)) (4 * i + 3) (get_or v 3 0)) (4 * (i + 1))
-word_stored key w i v h hi hn f e =
-    let g : (j : ℕ) → j < 4 → get_or v j 0 ≡ get_or (key_expansion key) (4 * i + j) 0 =
-    λ j l. ap (λ (u : List ℕ). get_or u j 0) e ∙ word_octet_lem w i j l ∙ expansion_at key w i j h f hi hn l in
-    let e0 : 4 * i + 0 ≡ 4 * i = omega arith in
-    let e1 : 4 * i + 1 + 1 ≡ 4 * i + 2 = omega arith in
-    let e2 : 4 * i + 2 + 1 ≡ 4 * i + 3 = omega arith in
-    let e3 : 4 * i + 3 + 1 ≡ 4 * (i + 1) = omega arith in
-    let f1 = more f (omega arith) (get_or v 0 0) (g 0 (omega arith) ∙ ap (λ (k : ℕ). get_or (key_expansion key) k 0) e0) in
-    let f2 = subst (λ (n : ℕ). Filled 176 (key_expansion key) (set (set w (4 * i) (get_or v 0 0)) (4 * i + 1) (get_or v 1 0)) n) e1 (more f1 (omega arith) (get_or v 1 0) (g 1 (omega arith))) in
-    let f3 = subst (λ (n : ℕ). Filled 176 (key_expansion key) (set (set (set w (4 * i) (get_or v 0 0)) (4 * i + 1) (get_or v 1 0)) (4 * i + 2) (get_or v 2 0)) n) e2 (more f2 (omega arith) (get_or v 2 0) (g 2 (omega arith))) in
-    subst (λ (n : ℕ). Filled 176 (key_expansion key) (set (set (set (set w (4 * i) (get_or v 0 0)) (4 * i + 1) (get_or v 1 0)) (4 * i + 2) (get_or v 2 0)) (4 * i + 3) (get_or v 3 0)) n) e3
-    (more f3 (omega arith) (get_or v 3 0) (g 3 (omega arith)))
+one_longer key w v i l h j e f =
+    let n : i + 1 - 4 ≡ suc (i - 4) = omega arith in
+    let m : 4 + (i - 4) ≡ i = omega arith in
+    let k : 4 * (i + 1) ≡ 4 * i + 4 = omega arith in
+    rw (n, m, k, four_set w (4 * i) (get_or v 0 0) (get_or v 1 0) (get_or v 2 0) (get_or v 3 0) (omega arith), f, all_four w i, ← next_taken w i h, e) refl
 
 -- ---- what is added, by words
 
@@ -202,13 +165,13 @@ pub temp_other : (w : List ℕ) (i : ℕ) → (i % 4 ≡ 0 → ⊥)
 unfolding temp word word_octet
 temp_other w i h = let e : 4 * (i - 1) + 0 ≡ 4 * (i - 1) = omega arith in rw (ne_eqb (i % 4) 0 h, e) refl
 
-pub next_by_word : (w : List ℕ) (i : ℕ) (t : List ℕ) → t ≡ temp w i
-    → xor (get_or w (4 * (i - 4)) 0) (get_or t 0 0) ∷ xor (get_or w (4 * (i - 4) + 1) 0) (get_or t 1 0) ∷ xor (get_or w (4 * (i - 4) + 2) 0) (get_or t 2 0) ∷ xor (get_or w (4 * (i - 4) + 3) 0) (get_or t 3 0) ∷ []
-    ≡ next_word w i
-unfolding next_word xor_words word word_octet
-next_by_word w i t h = let e : 4 * (i - 4) + 0 ≡ 4 * (i - 4) = omega arith in rw (h, e) refl
+module _ (w : List ℕ) (i : ℕ) where
+  pub next_long : length (next_word w i) ≡ 4
+  unfolding next_word xor_words
+  next_long = refl
 
--- a list filled from another
-pub filled_more : (w key : List ℕ) (i : ℕ) → i < length w → i < length key → take i w ≡ take i key → take (i + 1) (set w i (get_or key i 0)) ≡ take (i + 1) key
-filled_more w key i h l e =
-    rw (add-one i) (take-suc-set w i (get_or key i 0) h ∙ ap (λ (p : List ℕ). p ++ get_or key i 0 ∷ []) e ∙ sym (take-suc key i 0 l))
+  pub next_at : (t : List ℕ) → t ≡ temp w i → (k : ℕ) → k < 4 → get_or (next_word w i) k 0 ≡ xor (get_or w (4 * (i - 4) + k) 0) (get_or t k 0)
+  unfolding next_word xor_words word word_octet
+  next_at t h k l =
+      rw h
+      (by_four (λ (x : ℕ). get_or (next_word w i) x 0 ≡ xor (get_or w (4 * (i - 4) + x) 0) (get_or (temp w i) x 0)) refl refl refl refl k l)

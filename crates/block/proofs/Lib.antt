@@ -1,3 +1,5 @@
-pub mod LoopLaws
+pub mod InTableLaws
+pub mod FindLaws
+pub mod WordLaws
 pub mod SpotLaws
 pub mod WritingLaws

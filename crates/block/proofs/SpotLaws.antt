@@ -65,10 +65,8 @@ module _ (s : List ℕ) (e : ℕ) where
   within = halving_within (index_endpoint s) e (count_of s) rounds
 
   module _ (at : ℕ) (h : here at ≡ spot s e) where
-    pub here_room : at < places
-    here_room =
-        let w : at < count_of s = subst (Within (count_of s)) (sym h) within in
-        omega (arith, w, count_within s)
+    pub here_below : at < count_of s
+    here_below = subst (Within (count_of s)) (sym h) within
 
     pub here_place : index_place s at ≡ place_of_endpoint s e
     unfolding place_of_endpoint

@@ -1,2 +1,3 @@
 pub mod RowPart
 pub mod Spots
+pub mod InTable

@@ -1,8 +1,7 @@
 -- What the answer of a search in the index means.
+use Rattle.std.specs.Prelude.{ℕ, Result, Ok, Err}
 use Rattle.rules.specs.Halving as Spec
-use Rattle.block.specs.declared.lookup.Spot.{Spot}
-use Rattle.block.specs.declared.lookup.Spot.TheVariants.{Here, Missing}
 
-abbrev pub spot_of : Spot → Spec.Spot
-spot_of (Here at) = Spec.here at
-spot_of (Missing at) = Spec.missing at
+abbrev pub spot_of : Result ℕ ℕ → Spec.Spot
+spot_of (Ok at) = Spec.here at
+spot_of (Err at) = Spec.missing at

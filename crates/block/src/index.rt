@@ -1,4 +1,5 @@
-// Entries of the index put in and taken out.
+// Entries of the index put in and taken out. Places and endpoints stand in two lists of the lent block, which is octets
+// alone: no memory but the caller's.
 ghost use Rattle.std.specs.Prelude.{◌≡◌, ◌+◌, ◌*◌, ◌≤◌, ◌<◌, length};
 ghost use Rattle.octets.specs.Number.{octets_of_16};
 ghost use Rattle.octets.specs.Write.{over};
@@ -7,7 +8,7 @@ ghost use Rattle.rules.specs.Layout as Layout;
 ghost use Rattle.rules.specs.Index as Spec;
 
 use crate::layout::{BLOCK, INDEX, INDEX_ENDPOINTS, INDEX_PLACES, PLACES};
-use crate::lookup::{Spot, count, endpoint_at, nearest, spot_of};
+use crate::lookup::{count, spot_of};
 use crate::moving::shift;
 
 fn enter(out: &mut [u8], from: usize, to: usize, q: &[u8])
@@ -26,48 +27,39 @@ fn withdraw(out: &mut [u8], from: usize, to: usize, q: &[u8])
     octets::put_octets(out, to - q.len(), q);
 }
 
-fn put_count(state: &mut [u8], n: usize)
-    requires { (length state.old ≡ Layout.block_length) × (n ≤ Limits.places) }
+fn put_count(state: &mut [u8; BLOCK], n: usize)
+    requires { n ≤ Limits.places }
     ensures { state.new ≡ over state.old Layout.index_at (octets_of_16 n) }
 {
     octets::put_number16(state, INDEX, n as u16);
 }
 
-fn insert_at(state: &mut [u8], at: usize, endpoint: u32, place: u8)
-    requires { (length state.old ≡ Layout.block_length) × (at ≤ Spec.count_of state.old) × (Spec.count_of state.old < Limits.places) }
+fn insert_at(state: &mut [u8; BLOCK], at: usize, endpoint: u32, place: u8)
+    requires { (at ≤ Spec.count_of state.old) × (Spec.count_of state.old < Limits.places) }
     ensures { state.new ≡ Spec.inserted_at state.old at endpoint place }
 {
     let n = count(state);
-    let one = [place];
-    enter(state, INDEX_PLACES + at, INDEX_PLACES + n, &one);
-    let four = [
-        (endpoint % 256) as u8,
-        (endpoint / 256 % 256) as u8,
-        (endpoint / 65536 % 256) as u8,
-        (endpoint / 16777216) as u8,
-    ];
+    enter(state, INDEX_PLACES + at, INDEX_PLACES + n, &[place]);
     enter(
         state,
         INDEX_ENDPOINTS + 4 * at,
         INDEX_ENDPOINTS + 4 * n,
-        &four,
+        &endpoint.to_le_bytes(),
     );
     put_count(state, n + 1);
 }
 
-fn remove_at(state: &mut [u8], at: usize)
-    requires { (length state.old ≡ Layout.block_length) × (at < Spec.count_of state.old) × (Spec.count_of state.old ≤ Limits.places) }
+fn remove_at(state: &mut [u8; BLOCK], at: usize)
+    requires { (at < Spec.count_of state.old) × (Spec.count_of state.old ≤ Limits.places) }
     ensures { state.new ≡ Spec.removed_at state.old at }
 {
     let n = count(state);
-    let one = [0u8];
-    withdraw(state, INDEX_PLACES + at, INDEX_PLACES + n, &one);
-    let four = [0u8, 0u8, 0u8, 0u8];
+    withdraw(state, INDEX_PLACES + at, INDEX_PLACES + n, &[0]);
     withdraw(
         state,
         INDEX_ENDPOINTS + 4 * at,
         INDEX_ENDPOINTS + 4 * n,
-        &four,
+        &[0, 0, 0, 0],
     );
     put_count(state, n - 1);
 }
@@ -76,12 +68,9 @@ fn remove_at(state: &mut [u8], at: usize)
 pub fn put_in(state: &mut [u8; BLOCK], endpoint: u32, place: u8)
     ensures { state.new ≡ Spec.with_entry state.old endpoint place }
 {
-    match spot_of(state, endpoint) {
-        Spot::Here { at: _ } => {}
-        Spot::Missing { at } => {
-            if count(state) < PLACES {
-                insert_at(state, at, endpoint, place);
-            }
+    if let Err(at) = spot_of(state, endpoint) {
+        if count(state) < PLACES {
+            insert_at(state, at, endpoint, place);
         }
     }
 }
@@ -90,12 +79,7 @@ pub fn put_in(state: &mut [u8; BLOCK], endpoint: u32, place: u8)
 pub fn take_out(state: &mut [u8; BLOCK], endpoint: u32)
     ensures { state.new ≡ Spec.without_entry state.old endpoint }
 {
-    let n = count(state);
-    if 0 < n {
-        let near = nearest(state, endpoint, n);
-        let at = near.at;
-        if endpoint_at(state, at) == endpoint {
-            remove_at(state, at);
-        }
+    if let Ok(at) = spot_of(state, endpoint) {
+        remove_at(state, at);
     }
 }

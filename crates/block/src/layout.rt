@@ -38,7 +38,8 @@ pub fn is_up(state: &[u8]) -> bool
     octets::octet(state, TUNNEL) != 0
 }
 
-// The row of a place; a number that is no place has none, and no octets.
+// The row of a place; a number that is no place has none, and no octets. The test comes first, as `get` would not save it: the
+// offset of a great number does not fit.
 pub fn row_at(state: &[u8; BLOCK], place: usize) -> &[u8]
     ensures { RowPart state.entry place result }
 {

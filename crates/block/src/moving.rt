@@ -24,9 +24,7 @@ fn copy_part(out: &mut [u8], at: usize, src: &[u8], from: usize, size: usize)
     requires { (at + size ≤ length out.old) × (from + size ≤ length src.now) }
     ensures { out.new ≡ over out.old at (part src.now from (from + size)) }
 {
-    let mut i = 0;
-    while i < size {
+    for i in 0..size {
         out[at + i] = src[from + i];
-        i += 1;
     }
 }

@@ -11,11 +11,12 @@
 --                 |                |
 --                 |    [128..191] -+--> forward to RTP/RTCP
 --                 +----------------+
-use Rattle.std.specs.Prelude.{ℕ, cond, List, [], ◌∷◌}
+use Rattle.std.specs.Prelude.{ℕ, cond, List, [], ◌∷◌, Result, Ok, Err}
 use Rattle.octets.specs.Range.{within}
+use Rattle.octets.specs.Refusal.{number_of}
+use Rattle.octets.specs.declared.refusal.Refusal.{Refusal}
 use Rattle.demux.specs.declared.sorting.Kind.{Kind}
 use Rattle.demux.specs.declared.sorting.Kind.TheVariants.{Stun, Zrtp, Dtls, TurnChannel, Rtp, Other}
-use Rattle.demux.specs.declared.sorting.Sorted.{Sorted}
 
 -- the figure's ranges, both limits counted; every other value is Other
 unfoldable pub kind_of : (first : ℕ) → Kind
@@ -37,7 +38,7 @@ unfoldable pub sorting : List ℕ → Answer
 sorting [] = refused 19
 sorting (first ∷ rest) = kind (kind_of first)
 
--- the number or the kind that each case of the enum stands for
-abbrev pub answer_of : Sorted → Answer
-answer_of Sorted.Empty = refused 19
-answer_of (Sorted.Packet k) = kind k
+-- the number or the kind that a result stands for
+abbrev pub answer_of : Result Kind Refusal → Answer
+answer_of (Err refusal) = refused (number_of refusal)
+answer_of (Ok k) = kind k

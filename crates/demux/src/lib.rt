@@ -3,4 +3,4 @@
 
 mod sorting;
 
-pub use sorting::{Kind, Sorted, kind_of, sort};
+pub use sorting::{Kind, sort};

@@ -2,7 +2,9 @@
 ghost use Rattle.std.specs.Prelude.{◌≡◌};
 ghost use Rattle.demux.specs.Sorting.{kind_of, sorting, answer_of};
 
-#[derive(Clone, Copy)]
+use octets::Refusal;
+
+#[derive(Clone, Copy, Debug, PartialEq, Eq)]
 pub enum Kind {
     Stun,
     // RFC 6189.
@@ -15,33 +17,28 @@ pub enum Kind {
     Other,
 }
 
-// What sorting answers. An empty packet is refusal 19.
-#[derive(Clone, Copy)]
-pub enum Sorted {
-    Empty,
-    Packet(Kind),
-}
-
 // The kind that a first octet stands for.
-pub fn kind_of(first: u8) -> Kind
-    ensures { result ≡ kind_of first }
-{
-    match first {
-        0..=3 => Kind::Stun,
-        16..=19 => Kind::Zrtp,
-        20..=63 => Kind::Dtls,
-        64..=79 => Kind::TurnChannel,
-        128..=191 => Kind::Rtp,
-        _ => Kind::Other,
+impl From<u8> for Kind {
+    ghost from_gives = { λ first kind. kind ≡ kind_of first };
+
+    #[tactic(auto, using(octets::proofs::RangeLaws::arms), unfolding(crate::specs::Sorting::kind_of))]
+    fn from(first: u8) -> Kind {
+        match first {
+            0..=3 => Kind::Stun,
+            16..=19 => Kind::Zrtp,
+            20..=63 => Kind::Dtls,
+            64..=79 => Kind::TurnChannel,
+            128..=191 => Kind::Rtp,
+            _ => Kind::Other,
+        }
     }
 }
 
 // The kind of a packet; no octet but the first is looked at.
-pub fn sort(packet: &[u8]) -> Sorted
+#[tactic(auto, unfolding(crate::specs::Sorting::sorting))]
+pub fn sort(packet: &[u8]) -> Result<Kind, Refusal>
     ensures { answer_of result ≡ sorting packet.now }
 {
-    if packet.len() == 0 {
-        return Sorted::Empty;
-    }
-    Sorted::Packet(kind_of(octets::octet(packet, 0)))
+    let first = packet.first().ok_or(Refusal::EmptyPacket)?;
+    Ok(Kind::from(*first))
 }

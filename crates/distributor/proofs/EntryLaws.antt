@@ -1,10 +1,9 @@
 -- Laws of the entries that are put row by row.
 use Prim.Native.Nat.{ℕ, ◌+◌, ◌*◌, ◌^◌, ◌≤◌, ◌<◌}
 use mathlib.Core.Path.{◌≡◌, ap, subst, ◌∙◌}
-use mathlib.Core.Bool.{Bool, not}
+use mathlib.Core.Bool.{Bool}
 use mathlib.Core.List.{List, [], ◌∷◌, ◌++◌, append-nil}
 use native.Mathlib.Omega.{arith}
-use lib.Dec.{eqb}
 use lib.ListN.{length}
 use Rattle.status.specs.Limits.{place_bits, state_bits, endpoint_bits, entry_bits}
 use Rattle.status.specs.Bits.{bits_of}
@@ -30,14 +29,14 @@ head_below place keyed h =
     below_add place_bits state_bits (omega (arith, places_fit)) (state_fits (Entries.state_of keyed) (state_below keyed))
 
 -- place and state, then the endpoint
-pub entry_puts : {a b c : List ℕ} {u v w : Packing} (place state endpoint : ℕ) {head : ℕ} → head ≡ head_of place (not (eqb state 1))
+pub entry_puts : {a b c : List ℕ} {u v w : Packing} (place : ℕ) (keyed : Bool) (endpoint : ℕ) {head : ℕ} → head ≡ head_of place keyed
     → Puts a u (bits_of (place_bits + state_bits) head) b v → Puts b v (bits_of endpoint_bits endpoint) c w
-    → Puts a u (bits_of_entry (entry_of state endpoint place)) c w
+    → Puts a u (bits_of_entry (record { place = place; keyed = keyed; endpoint = endpoint })) c w
 unfolding bits_of_entry
-entry_puts {a} {b} {c} {u} {v} {w} place state endpoint {head} e f g =
-    let s = Entries.state_of (not (eqb state 1)) in
+entry_puts {a} {b} {c} {u} {v} {w} place keyed endpoint {head} e f g =
+    let s = Entries.state_of keyed in
     let d : bits_of (place_bits + state_bits) head ≡ bits_of place_bits place ++ bits_of state_bits s =
-    ap (bits_of (place_bits + state_bits)) e ∙ bits_add place_bits state_bits place s (state_fits s (state_below (not (eqb state 1)))) in
+    ap (bits_of (place_bits + state_bits)) e ∙ bits_add place_bits state_bits place s (state_fits s (state_below keyed)) in
     puts_more a b c (bits_of place_bits place ++ bits_of state_bits s) (bits_of endpoint_bits endpoint) u v w
     (subst (λ (x : List ℕ). Puts a u x b v) d f) g
 

@@ -5,3 +5,4 @@ pub mod Sendable
 pub mod PackingLaws
 pub mod PageLaws
 pub mod EntryLaws
+pub mod SortLaws

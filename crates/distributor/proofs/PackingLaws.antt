@@ -28,42 +28,42 @@ drop_further x y at n e = sym (drop-drop n at x) ∙ ap (drop n) e ∙ drop-drop
 stored : (out : List ℕ) (at octet : ℕ) → at < length out → joined 0 (take (at + 1) (set out at octet)) ≡ joined 0 (take at out) * 256 + octet
 stored out at octet h = rw add-one (ap (joined 0) (take-suc-set out at octet h) ∙ joined_next 0 (take at out) octet)
 
-module _ (out : List ℕ) (at n : ℕ) (h : at + 4 ≤ length out) where
+module _ (out : List ℕ) (at a b c d : ℕ) (h : at + 4 ≤ length out) where
   abbrev one : List ℕ
-  one = set out at (n / 16777216)
+  one = set out at a
 
   abbrev two : List ℕ
-  two = set one (at + 1) (n / 65536 % 256)
+  two = set one (at + 1) b
 
   abbrev three : List ℕ
-  three = set two (at + 2) (n / 256 % 256)
+  three = set two (at + 2) c
 
   abbrev pub four : List ℕ
-  four = set three (at + 3) (n % 256)
+  four = set three (at + 3) d
 
   length_one : length one ≡ length out
-  length_one = length-set out at (n / 16777216)
+  length_one = length-set out at a
 
   length_two : length two ≡ length out
-  length_two = length-set one (at + 1) (n / 65536 % 256) ∙ length_one
+  length_two = length-set one (at + 1) b ∙ length_one
 
   length_three : length three ≡ length out
-  length_three = length-set two (at + 2) (n / 256 % 256) ∙ length_two
+  length_three = length-set two (at + 2) c ∙ length_two
 
-  pub four_put : FourPut out at n four
-  four_put =
-      let a = stored out at (n / 16777216) (omega arith) in
-      let b = stored one (at + 1) (n / 65536 % 256) (omega (arith, length_one)) in
-      let c = stored two (at + 2) (n / 256 % 256) (omega (arith, length_two)) in
-      let d = stored three (at + 3) (n % 256) (omega (arith, length_three)) in
+  pub four_put : (n : ℕ) → n ≡ ((a * 256 + b) * 256 + c) * 256 + d → FourPut out at n four
+  four_put n q =
+      let s = stored out at a (omega arith) in
+      let t = stored one (at + 1) b (omega (arith, length_one)) in
+      let u = stored two (at + 2) c (omega (arith, length_two)) in
+      let v = stored three (at + 3) d (omega (arith, length_three)) in
       let e : at + 1 + 1 ≡ at + 2 = omega arith in
       let f : at + 2 + 1 ≡ at + 3 = omega arith in
       let g : at + 3 + 1 ≡ at + 4 = omega arith in
       record {
-        front = omega (arith, a, rw e at b, rw f at c, rw g at d);
+        front = omega (arith, q, s, rw e at t, rw f at u, rw g at v);
         behind =
-            drop-set-lt (at + 4) three (at + 3) (n % 256) (omega arith) ∙ drop-set-lt (at + 4) two (at + 2) (n / 256 % 256) (omega arith)
-            ∙ drop-set-lt (at + 4) one (at + 1) (n / 65536 % 256) (omega arith) ∙ drop-set-lt (at + 4) out at (n / 16777216) (omega arith);
+            drop-set-lt (at + 4) three (at + 3) d (omega arith) ∙ drop-set-lt (at + 4) two (at + 2) c (omega arith)
+            ∙ drop-set-lt (at + 4) one (at + 1) b (omega arith) ∙ drop-set-lt (at + 4) out at a (omega arith);
       }
 
 -- ---- a number and bits that wait

@@ -27,7 +27,8 @@ use Rattle.rules.proofs.RowsLaws.{rows_length}
 use Rattle.rules.proofs.AgreesPages.{entries_none}
 use Rattle.distributor.specs.Packing.{shown_to}
 use Rattle.distributor.specs.Outcomes.{Pages}
-use Rattle.distributor.specs.declared.sending.Sent.{Sent}
+use Rattle.std.specs.Prelude.{Result, Ok, Err}
+use Rattle.octets.specs.declared.refusal.Refusal.{Refusal}
 
 get_d_mapped : {A B : Type 0} (f : A → B) (l : List A) (d : A) (e : B) (i : ℕ) → i < length l → get_or (map f l) i e ≡ f (get_or l i d)
 get_d_mapped f [] d e i h = absurd (omega arith)
@@ -109,18 +110,18 @@ module _ (s : List ℕ) {shown count : ℕ} (a : shown ≡ cond (up s) places 0)
 
 -- ---- what is answered
 
-abbrev answered_by : List ℕ → Bool → (out after : List ℕ) → Sent → Type 0
+abbrev answered_by : List ℕ → Bool → (out after : List ℕ) → Result ℕ Refusal → Type 0
 answered_by s no_room out after r = Pages (answered (refuse no_room 13 allowed) 0 (page (page_entries s))) out after r
 
 module _ (s out : List ℕ) where
-  pub page_refused : length out < length (layout (page_entries s)) → Pages (answer s (write_page (length out))) out out (Sent.Refused 13)
+  pub page_refused : length out < length (layout (page_entries s)) → Pages (answer s (write_page (length out))) out out (Err Refusal.NoRoom)
   unfolding answer page_answer page_verdict
   page_refused h =
-      subst (λ (b : Bool). answered_by s b out out (Sent.Refused 13)) (sym (lt-ltb (length out) (length (layout (page_entries s))) h)) (refl, refl)
+      subst (λ (b : Bool). answered_by s b out out (Err Refusal.NoRoom)) (sym (lt-ltb (length out) (length (layout (page_entries s))) h)) (refl, refl)
 
   pub page_written : (after : List ℕ) (count : ℕ) → length (layout (page_entries s)) ≤ length out → count ≡ length (layout (page_entries s))
-      → after ≡ layout (page_entries s) ++ drop count out → Pages (answer s (write_page (length out))) out after (Sent.Written count)
+      → after ≡ layout (page_entries s) ++ drop count out → Pages (answer s (write_page (length out))) out after (Ok count)
   unfolding answer page_answer page_verdict
   page_written after count h e w =
-      subst (λ (b : Bool). answered_by s b out after (Sent.Written count)) (sym (le-ltb (length out) (length (layout (page_entries s))) h))
+      subst (λ (b : Bool). answered_by s b out after (Ok count)) (sym (le-ltb (length out) (length (layout (page_entries s))) h))
       (record { entries = page_entries s; told = refl; counted = e; written = w ∙ ap (λ (n : ℕ). layout (page_entries s) ++ drop n out) e })

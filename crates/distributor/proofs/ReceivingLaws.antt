@@ -1,145 +1,142 @@
--- Laws of tunnel octets: refusal 4 by the front of the octets, and what each way through a call comes to.
-use Prim.Native.Nat.{ℕ, ◌+◌, ◌<◌, ◌≤◌}
-use mathlib.Core.Path.{◌≡◌, refl, sym, ap, ◌∙◌}
-use mathlib.Core.Bool.{true, false}
+-- Laws of tunnel octets: what each way through a call comes to.
+use Prim.Native.Nat.{ℕ, ◌+◌}
+use mathlib.Core.Path.{◌≡◌, refl, sym, ap, subst, ◌∙◌}
+use mathlib.Core.Bool.{Bool, true, false, cond}
 use mathlib.Core.List.{List}
-use mathlib.Core.Option.{Option, some}
 use native.Mathlib.Omega.{arith}
-use borrow.Author.Tests.{lt-ltb, le-ltb}
-use lib.Dec.{ltb, eqb}
+use borrow.Author.Tests.{ne_eqb}
+use Rattle.std.specs.Prelude.{Some, Result, Ok, Err}
 use Rattle.octets.specs.Bounds.{part_in}
+use Rattle.octets.specs.Refusal.{number_of}
+use Rattle.octets.specs.declared.refusal.Refusal.{Refusal}
 use Rattle.message.specs.Limits.{header, width}
-use Rattle.message.specs.Parts.{identifier_bounds, dtls_bounds, dtls_in}
+use Rattle.message.specs.Parts.{identifier_bounds, dtls_bounds, dtls_found}
+use Rattle.message.specs.Body as Body
 use Rattle.message.specs.Frame as Frame
 use Rattle.message.specs.Read as Read
 use Rattle.message.specs.declared.framing.Kind.{Kind}
 use Rattle.message.specs.declared.bodies.Fields.{Fields}
 use Rattle.message.specs.declared.bodies.Fields.TheVariants.{MediaKeys, TunneledDtls, EndpointDisconnect}
-use Rattle.message.specs.declared.bodies.KeyLengths.{KeyLengths}
 use Rattle.message.proofs.TunneledLaws.{tunneled_told, tunneled_frame, tunneled_content}
-use Rattle.rules.specs.Limits.{places}
-use Rattle.rules.specs.Keys.{keys_in}
 use Rattle.rules.specs.Index.{without_entry}
-use Rattle.rules.specs.Layout.{up, row_of, endpoint_of, keyed_row, with_row, vacant_row}
+use Rattle.rules.specs.Layout.{up, row_of, endpoint_of, keyed_row, with_row, vacant_row, down_block}
 use Rattle.rules.specs.Verdict.{allowed, refusal}
 use Rattle.rules.specs.Answer.{Answer, refused, keys_stored, delivery, removed}
 use Rattle.rules.specs.Refusals.{received, receiving}
-use Rattle.distributor.specs.Outcomes.{profiles_in, received_of}
+use Rattle.rules.specs.Table.{place_of_identifier, fields_answer, fields_next, read_next, octets_answer, octets_next}
+use Rattle.rows.specs.ReadKeys.{keys_read}
+use Rattle.rows.specs.declared.writing.ReadKeys.{ReadKeys}
+use Rattle.distributor.specs.Outcomes.{Found, Takes, Reads, whole_of, keys_place, keys_verdict}
 use Rattle.distributor.specs.declared.receiving.Received.{Received}
-use Rattle.rules.specs.Table.{place_of_identifier, endpoint_for, knows, keys_verdict, fields_answer, fields_next, read_answer, read_next, octets_answer, octets_next}
-use Rattle.rules.proofs.VerdictLaws.{keys_avoid}
 
 -- ---- refusal 4 is the only one that is not the reading's
 
-pub received_read : (s : List ℕ) (f : Frame.Framing) → profiles_in f ≡ 0 → received s f ≡ Read.frame_answer s f
-received_read s Frame.more_needed h = refl
-received_read s (Frame.refused number taken) h = refl
-received_read s (Frame.version number) h = refl
-received_read s (Frame.whole Kind.SupportedProfiles n) h = absurd (omega (arith, h))
-received_read s (Frame.whole Kind.UnsupportedVersion n) h = refl
-received_read s (Frame.whole Kind.MediaKeys n) h = refl
-received_read s (Frame.whole Kind.TunneledDtls n) h = refl
-received_read s (Frame.whole Kind.EndpointDisconnect n) h = refl
-received_read s (Frame.whole Kind.Unlisted n) h = refl
-
-pub received_profiles : (s : List ℕ) (f : Frame.Framing) → (profiles_in f ≡ 0 → ⊥) → received s f ≡ Read.refused 4 (profiles_in f)
-received_profiles s Frame.more_needed h = absurd (h refl)
-received_profiles s (Frame.refused number taken) h = absurd (h refl)
-received_profiles s (Frame.version number) h = absurd (h refl)
-received_profiles s (Frame.whole Kind.SupportedProfiles n) h = refl
-received_profiles s (Frame.whole Kind.UnsupportedVersion n) h = absurd (h refl)
-received_profiles s (Frame.whole Kind.MediaKeys n) h = absurd (h refl)
-received_profiles s (Frame.whole Kind.TunneledDtls n) h = absurd (h refl)
-received_profiles s (Frame.whole Kind.EndpointDisconnect n) h = absurd (h refl)
-received_profiles s (Frame.whole Kind.Unlisted n) h = absurd (h refl)
+pub received_read : (s : List ℕ) (kind : Kind) (n : ℕ) → (kind ≡ Kind.SupportedProfiles → ⊥) → received s (Frame.whole kind n) ≡ Read.frame_answer s (Frame.whole kind n)
+received_read s Kind.SupportedProfiles n h = absurd (h refl)
+received_read s Kind.UnsupportedVersion n h = refl
+received_read s Kind.MediaKeys n h = refl
+received_read s Kind.TunneledDtls n h = refl
+received_read s Kind.EndpointDisconnect n h = refl
+received_read s Kind.Unlisted n h = refl
 
 -- a whole TunneledDtls, told by its DTLS octets
-pub tunneled : (s : List ℕ) (n : ℕ) → n ≡ dtls_in (Read.reading s) → (n ≡ 0 → ⊥) → receiving s ≡ Read.accepted (TunneledDtls n) (header + width + 2 + n)
+pub tunneled : (s : List ℕ) (n : ℕ) → Some n ≡ dtls_found (Read.reading s) → receiving s ≡ Read.accepted (TunneledDtls n) (header + width + 2 + n)
 unfolding receiving
-tunneled s n e h =
-    let t = tunneled_told s n e h in
+tunneled s n e =
+    let t = tunneled_told s n e in
     let taken : header + (width + 2 + n) ≡ header + width + 2 + n = omega arith in
     ap (received s) (tunneled_frame s n t) ∙ ap (Read.body_answer (header + (width + 2 + n))) (tunneled_content s n t) ∙ ap (Read.accepted (TunneledDtls n)) taken
 
 -- ---- an answer with the block afterwards
 
-module _ (s octets : List ℕ) where
-  abbrev pub Fielded : (taken : ℕ) → Fields → Option Answer → List ℕ → Type 0
-  Fielded taken f a next = (a ≡ some (fields_answer s octets f taken)) × (next ≡ fields_next s octets f)
+module _ (s octets : List ℕ) {next : List ℕ} where
+  pub of_fields : (taken : ℕ) (r : Result Received Refusal) {f g : Fields} → f ≡ g → Takes s octets g taken next r → Takes s octets f taken next r
+  of_fields taken r e h = subst (λ (x : Fields). Takes s octets x taken next r) (sym e) h
 
-  abbrev pub Reads : Read.Answer → Option Answer → List ℕ → Type 0
-  Reads r a next = (a ≡ some (read_answer s octets r)) × (next ≡ read_next s octets r)
+  pub of_reading : {a : Answer} {r q : Read.Answer} → r ≡ q → Reads s octets r next a → Reads s octets q next a
+  of_reading {a} e h = subst (λ (x : Read.Answer). Reads s octets x next a) e h
 
-  abbrev pub Receives : Option Answer → List ℕ → Type 0
-  Receives a next = (a ≡ some (octets_answer s octets)) × (next ≡ octets_next s octets)
-
-module _ (s octets : List ℕ) {a : Option Answer} {next : List ℕ} where
-  pub of_fields : (taken : ℕ) {f g : Fields} → f ≡ g → Fielded s octets taken g a next → Fielded s octets taken f a next
-  of_fields taken e h =
-      (h.0 ∙ ap (λ (x : Fields). some (fields_answer s octets x taken)) (sym e), h.1 ∙ ap (λ (x : Fields). fields_next s octets x) (sym e))
-
-  pub of_reading : {r q : Read.Answer} → r ≡ q → Reads s octets r a next → Reads s octets q a next
-  of_reading e h =
-      (h.0 ∙ ap (λ (x : Read.Answer). some (read_answer s octets x)) e, h.1 ∙ ap (λ (x : Read.Answer). read_next s octets x) e)
-
-  pub of_receiving : up s ≡ true → (r : Read.Answer) → receiving octets ≡ r → Reads s octets r a next → Receives s octets a next
+  pub of_receiving : up s ≡ true → {a : Answer} → Reads s octets (receiving octets) next a → (a ≡ octets_answer s octets) × (next ≡ octets_next s octets)
   unfolding octets_answer octets_next
-  of_receiving u r e h = rw (u, e) h
+  of_receiving u h = rw u h
 
 -- ---- by refusal 1
 
 module _ (s octets : List ℕ) where
-  pub receives_down : up s ≡ false → Receives s octets (some (refused 1 0)) s
+  pub receives_down : up s ≡ false → (refused 1 0 ≡ octets_answer s octets) × (s ≡ octets_next s octets)
   unfolding octets_answer octets_next
   receives_down u = (rw u, rw u)
 
+  -- ---- refusal 2 ends the tunnel, and no other does
+
+  pub read_down : (r : Refusal) (next : List ℕ) (taken : ℕ) → r ≡ Refusal.Oversize → next ≡ down_block → next ≡ read_next s octets (Read.refused (number_of r) taken)
+  read_down r next taken e h = h ∙ ap (λ (x : Refusal). read_next s octets (Read.refused (number_of x) taken)) (sym e)
+
+  pub read_stays : (n taken : ℕ) → (n ≡ 2 → ⊥) → s ≡ read_next s octets (Read.refused n taken)
+  read_stays n taken h = rw (ne_eqb n 2 h) refl
+
+ended : (b : Bool) (f : Fields) (n : ℕ) → Body.refused n ≡ cond b (Body.fields f) (Body.refused 5) → n ≡ 2 → ⊥
+ended true f n h e = cc
+ended false f n h e = let k : n ≡ 5 = cc in omega arith
+
+-- a body has other refusals
+pub body_other : (kind : Kind) (body : List ℕ) (n : ℕ) → Body.refused n ≡ Body.content kind body → n ≡ 2 → ⊥
+unfolding Body.content Body.supported_profiles Body.unsupported_version Body.media_keys Body.tunneled_dtls Body.endpoint_disconnect
+body_other Kind.SupportedProfiles body n h = ended _ _ n h
+body_other Kind.UnsupportedVersion body n h = ended _ _ n h
+body_other Kind.MediaKeys body n h = ended _ _ n h
+body_other Kind.TunneledDtls body n h = ended _ _ n h
+body_other Kind.EndpointDisconnect body n h = ended _ _ n h
+body_other Kind.Unlisted body n h = λ e. let k : n ≡ 3 = cc in omega arith
+
+module _ (s octets : List ℕ) where
+  pub body_refused : (kind : Kind) (body : List ℕ) (taken : ℕ) (x : Result Received Refusal) (r : Refusal) → x ≡ Err r → Body.refused (number_of r) ≡ Body.content kind body
+      → Reads s octets (Read.body_answer taken (Body.content kind body)) s (whole_of taken x)
+  body_refused kind body taken x r t h =
+      of_reading s octets (ap (Read.body_answer taken) h) (ap (whole_of taken) t, read_stays s octets (number_of r) taken (body_other kind body (number_of r) h))
+
 -- ---- by the place of the identifier
 
-module _ (s octets : List ℕ) (taken place : ℕ) (p : place ≡ place_of_identifier s (part_in octets identifier_bounds)) where
-  there : place < places → knows s (part_in octets identifier_bounds) ≡ true
-  there h = ap (λ (n : ℕ). ltb n places) (sym p) ∙ lt-ltb place places h
+module _ (s octets i : List ℕ) (taken : ℕ) (e : i ≡ part_in octets identifier_bounds) where
+  pub named : (r : Result ℕ Refusal) → Found (place_of_identifier s i) r → Found (place_of_identifier s (part_in octets identifier_bounds)) r
+  named r f = subst (λ (x : List ℕ). Found (place_of_identifier s x) r) e f
 
-  not_there : places ≤ place → knows s (part_in octets identifier_bounds) ≡ false
-  not_there h = ap (λ (n : ℕ). ltb n places) (sym p) ∙ le-ltb place places h
+  pub delivered : (n endpoint place : ℕ) → Found (place_of_identifier s i) (Ok place) → endpoint ≡ endpoint_of (row_of s place)
+      → Takes s octets (TunneledDtls n) taken s (Ok (Received.Delivery endpoint (dtls_bounds n) taken))
+  unfolding fields_answer fields_next
+  delivered n endpoint place f g =
+      let h = named (Ok place) f in
+      (rw h.0 (ap (λ (x : ℕ). delivery x (dtls_bounds n) taken) (g ∙ ap (λ (x : ℕ). endpoint_of (row_of s x)) h.1)), refl)
 
-  at_place : endpoint_of (row_of s place) ≡ endpoint_for s (part_in octets identifier_bounds)
-  at_place = ap (λ (x : ℕ). endpoint_of (row_of s x)) p
+  pub not_delivered : (n : ℕ) (x : Result Received Refusal) (r : Refusal) → x ≡ Err r → Found (place_of_identifier s i) (Err r) → Takes s octets (TunneledDtls n) taken s x
+  unfolding fields_answer fields_next
+  not_delivered n x r t f = let h = named (Err r) f in (ap (whole_of taken) t ∙ rw (h.0, h.1) refl, refl)
 
-  pub delivered : (n endpoint : ℕ) → place < places → endpoint ≡ endpoint_of (row_of s place)
-      → some (delivery endpoint (dtls_bounds n) taken) ≡ some (fields_answer s octets (TunneledDtls n) taken)
-  unfolding fields_answer
-  delivered n endpoint h e =
-      rw (there h) (ap (λ (x : ℕ). some (delivery x (dtls_bounds n) taken)) (e ∙ at_place))
-
-  pub not_delivered : (n : ℕ) → places ≤ place → some (refused 6 taken) ≡ some (fields_answer s octets (TunneledDtls n) taken)
-  unfolding fields_answer
-  not_delivered n h = rw (not_there h)
-
-  pub disconnected : (endpoint : ℕ) → place < places → endpoint ≡ endpoint_of (row_of s place)
+  pub disconnected : (endpoint place : ℕ) → Found (place_of_identifier s i) (Ok place) → endpoint ≡ endpoint_of (row_of s place)
       → {next : List ℕ} → next ≡ without_entry (with_row s place vacant_row) (endpoint_of (row_of s place))
-      → Fielded s octets taken EndpointDisconnect (some (removed endpoint taken)) next
+      → Takes s octets EndpointDisconnect taken next (Ok (Received.Disconnected endpoint taken))
   unfolding fields_answer fields_next
-  disconnected endpoint h n e = (rw (there h) (ap (λ (x : ℕ). some (removed x taken)) (n ∙ at_place)), rw (there h) (e ∙ ap (λ (x : ℕ). without_entry (with_row s x vacant_row) (endpoint_of (row_of s x))) p))
+  disconnected endpoint place f g n =
+      let h = named (Ok place) f in (
+        rw h.0 (ap (λ (x : ℕ). removed x taken) (g ∙ ap (λ (x : ℕ). endpoint_of (row_of s x)) h.1)),
+        rw h.0 (n ∙ ap (λ (x : ℕ). without_entry (with_row s x vacant_row) (endpoint_of (row_of s x))) h.1),
+      )
 
-  pub not_disconnected : places ≤ place → Fielded s octets taken EndpointDisconnect (some (refused 6 taken)) s
+  pub not_disconnected : (x : Result Received Refusal) (r : Refusal) → x ≡ Err r → Found (place_of_identifier s i) (Err r) → Takes s octets EndpointDisconnect taken s x
   unfolding fields_answer fields_next
-  not_disconnected h = (rw (not_there h), rw (not_there h))
+  not_disconnected x r t f = let h = named (Err r) f in (ap (whole_of taken) t ∙ rw (h.0, h.1) refl, rw h.0 refl)
 
 -- ---- keys, by their verdict
 
-module _ (s octets : List ℕ) (taken profile : ℕ) (k : KeyLengths) where
-  pub keyed : (place : ℕ) → place ≡ place_of_identifier s (part_in octets identifier_bounds)
-      → allowed ≡ keys_verdict s (part_in octets identifier_bounds) profile k
+module _ (s : List ℕ) (taken : ℕ) (k : ReadKeys) where
+  pub keyed : (place : ℕ) → (allowed ≡ keys_verdict s k) × (place ≡ keys_place s k)
       → (endpoint : ℕ) → endpoint ≡ endpoint_of (row_of s place)
-      → {next : List ℕ} → next ≡ with_row s place (keyed_row (keys_in octets profile k) (row_of s place))
-      → Fielded s octets taken (MediaKeys profile k) (some (keys_stored endpoint taken)) next
+      → {next : List ℕ} → next ≡ with_row s place (keyed_row (keys_read k) (row_of s place))
+      → Takes s k.octets.now (MediaKeys k.profile k.lengths) taken next (Ok (Received.KeysStored endpoint taken))
   unfolding fields_answer fields_next
-  keyed place p v endpoint n e =
-      rw (← v) (ap (λ (x : ℕ). some (keys_stored x taken)) (n ∙ ap (λ (x : ℕ). endpoint_of (row_of s x)) p), e ∙ ap (λ (x : ℕ). with_row s x (keyed_row (keys_in octets profile k) (row_of s x))) p)
+  keyed place v endpoint n e =
+      rw (← v.0) (ap (λ (x : ℕ). keys_stored x taken) (n ∙ ap (λ (x : ℕ). endpoint_of (row_of s x)) v.1), e ∙ ap (λ (x : ℕ). with_row s x (keyed_row (keys_read k) (row_of s x))) v.1)
 
-  pub not_keyed : (number : ℕ) → refusal number ≡ keys_verdict s (part_in octets identifier_bounds) profile k
-      → Fielded s octets taken (MediaKeys profile k) (received_of (Received.Refused number taken)) s
+  pub not_keyed : (x : Result Received Refusal) (r : Refusal) → x ≡ Err r → refusal (number_of r) ≡ keys_verdict s k → Takes s k.octets.now (MediaKeys k.profile k.lengths) taken s x
   unfolding fields_answer fields_next
-  not_keyed number v =
-      let five : eqb number 5 ≡ false = rw (← v) at (keys_avoid 5 refl refl refl refl s (part_in octets identifier_bounds) profile k) in
-      rw (← v, five) (refl, refl)
+  not_keyed x r t v = (ap (whole_of taken) t ∙ rw (← v) refl, rw (← v) refl)

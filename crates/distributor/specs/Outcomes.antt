@@ -1,38 +1,44 @@
--- The number and the values that each case of the calls' enums stands for: document 01, "Forms by place".
-use Rattle.std.specs.Prelude.{ℕ, ◌+◌, ◌≡◌, cond, List, ◌++◌, length, drop, eqb}
-use Rattle.std.proofs.Math.Option.{Option, some, none}
+-- What the calls' results stand for: document 01, "Forms by place".
+use Rattle.std.specs.Prelude.{ℕ, ◌≡◌, List, ◌++◌, length, drop, ltb, true, false, Result, Ok, Err}
+use Rattle.octets.specs.Bounds.{part_in}
+use Rattle.octets.specs.Refusal.{number_of}
+use Rattle.octets.specs.declared.refusal.Refusal.{Refusal}
 use Rattle.status.specs.declared.entry.Entry.{Entry}
 use Rattle.status.specs.Page.{layout}
+use Rattle.message.specs.Parts.{identifier_bounds}
+use Rattle.message.specs.Read as Read
+use Rattle.message.specs.declared.bodies.Fields.{Fields}
+use Rattle.message.specs.declared.reading.Refused.{Refused}
+use Rattle.rules.specs.Limits.{places}
 use Rattle.rules.specs.Verdict.{Verdict, allowed, refusal}
-use Rattle.rules.specs.Refusals.{is_profiles}
 use Rattle.rules.specs.Call.{Call}
-use Rattle.rules.specs.Table.{answer, step}
+use Rattle.rules.specs.Table.{answer, step, place_of_identifier, fields_answer, fields_next, read_answer, read_next}
+use Rattle.rules.specs.Table as Table
 use Rattle.rules.specs.Answer.{Answer, refused, more_needed, wrote, placed, ended, keys_stored, delivery, removed, version, page}
-use Rattle.distributor.specs.declared.check.Check.{Check}
-use Rattle.distributor.specs.declared.ending.Ended.{Ended}
-use Rattle.distributor.specs.declared.opening.Opened.{Opened}
-use Rattle.distributor.specs.declared.sending.Sent.{Sent}
+use Rattle.rows.specs.declared.writing.ReadKeys.{ReadKeys}
 use Rattle.distributor.specs.declared.receiving.Received.{Received}
-use Rattle.message.specs.Frame as Frame
-use Rattle.message.specs.Direction.{of_kinds}
-use Rattle.message.specs.Limits.{header}
 
 -- a call does what the rules say: what it returns and writes tells the answer, and the block is left as the step leaves it
 abbrev pub Does : Call → (before after : List ℕ) → (Tells : Answer → Type 0) → Type 0
 Does c before after Tells = Tells (answer before c) × (after ≡ step before c)
 
--- a verdict, with the place that an allowed call is about: an association's, or the vacant one that an opening takes
-abbrev pub checked : Verdict → (place : ℕ) → Check
-checked allowed place = Check.Allowed place
-checked (refusal number) place = Check.Refused number
+-- what checks a verdict: an allowed call, with what it is about, an association's place or the vacant one that an opening takes; or the refusal
+abbrev pub Checks : {A : Type 0} → Verdict → A → Result A Refusal → Type 0
+Checks v about (Ok x) = (allowed ≡ v) × (x ≡ about)
+Checks v about (Err r) = refusal (number_of r) ≡ v
 
-abbrev pub ended_of : Ended → Answer
-ended_of (Ended.Refused number) = refused number 0
-ended_of Ended.Done = ended
+-- what finds the place that the rules have: one in the table, or refusal 6
+abbrev pub Found : (place : ℕ) → Result ℕ Refusal → Type 0
+Found place (Ok at) = (ltb place places ≡ true) × (at ≡ place)
+Found place (Err r) = (ltb place places ≡ false) × (number_of r ≡ 6)
 
-abbrev pub opened_of : Opened → Answer
-opened_of (Opened.Refused number) = refused number 0
-opened_of (Opened.At place) = placed place
+abbrev pub ended_of : Result (Unit {0}) Refusal → Answer
+ended_of (Ok x) = ended
+ended_of (Err r) = refused (number_of r) 0
+
+abbrev pub opened_of : Result ℕ Refusal → Answer
+opened_of (Ok place) = placed place
+opened_of (Err r) = refused (number_of r) 0
 
 -- ---- calls that write
 
@@ -44,9 +50,9 @@ pub record Wrote (a : Answer) (before after : List ℕ) (count : ℕ) : Type 0 w
   pub written : after ≡ octets ++ drop (length octets) before
 
 -- a refusal takes no octet and leaves every octet of the output as it was
-abbrev pub Sends : Answer → (before after : List ℕ) → Sent → Type 0
-Sends a before after (Sent.Refused number) = (a ≡ refused number 0) × (after ≡ before)
-Sends a before after (Sent.Written count) = Wrote a before after count
+abbrev pub Sends : Answer → (before after : List ℕ) → Result ℕ Refusal → Type 0
+Sends a before after (Ok count) = Wrote a before after count
+Sends a before after (Err r) = (a ≡ refused (number_of r) 0) × (after ≡ before)
 
 -- the page with the answer's entries: it stands at the front of the output, and the octets behind are as they were
 pub record WrotePage (a : Answer) (before after : List ℕ) (count : ℕ) : Type 0 where
@@ -55,21 +61,39 @@ pub record WrotePage (a : Answer) (before after : List ℕ) (count : ℕ) : Type
   pub counted : count ≡ length (layout entries)
   pub written : after ≡ layout entries ++ drop (length (layout entries)) before
 
-abbrev pub Pages : Answer → (before after : List ℕ) → Sent → Type 0
-Pages a before after (Sent.Refused number) = (a ≡ refused number 0) × (after ≡ before)
-Pages a before after (Sent.Written count) = WrotePage a before after count
+abbrev pub Pages : Answer → (before after : List ℕ) → Result ℕ Refusal → Type 0
+Pages a before after (Ok count) = WrotePage a before after count
+Pages a before after (Err r) = (a ≡ refused (number_of r) 0) × (after ≡ before)
 
--- ---- Tunnel octets; refusal 5 has a case of its own, and the other case of a refusal stands for no answer with that number
+-- ---- Tunnel octets
 
-abbrev pub received_of : Received → Option Answer
-received_of (Received.Refused number taken) = cond (eqb number 5) none (some (refused number taken))
-received_of (Received.BadBody taken) = some (refused 5 taken)
-received_of Received.MoreNeeded = some more_needed
-received_of (Received.KeysStored endpoint taken) = some (keys_stored endpoint taken)
-received_of (Received.Delivery endpoint dtls taken) = some (delivery endpoint dtls taken)
-received_of (Received.Disconnected endpoint taken) = some (removed endpoint taken)
-received_of (Received.Version number taken) = some (version number taken)
+abbrev pub accepted_of : Received → Answer
+accepted_of Received.MoreNeeded = more_needed
+accepted_of (Received.KeysStored endpoint taken) = keys_stored endpoint taken
+accepted_of (Received.Delivery endpoint dtls taken) = delivery endpoint dtls taken
+accepted_of (Received.Disconnected endpoint taken) = removed endpoint taken
+accepted_of (Received.Version number taken) = version number taken
 
--- the octets of a whole SupportedProfiles, which is refusal 4; 0 where the octets hold none
-abbrev pub profiles_in : Frame.Framing → ℕ
-profiles_in f = of_kinds is_profiles f (λ n. header + n) 0
+abbrev pub received_of : Result Received Refused → Answer
+received_of (Ok r) = accepted_of r
+received_of (Err r) = refused (number_of r.refusal) r.taken
+
+-- of a whole message, which is taken where it is refused too
+abbrev pub whole_of : (taken : ℕ) → Result Received Refusal → Answer
+whole_of taken (Ok r) = accepted_of r
+whole_of taken (Err r) = refused (number_of r) taken
+
+-- the answer to what was read, and the block afterwards
+abbrev pub Reads : (before octets : List ℕ) → Read.Answer → (after : List ℕ) → Answer → Type 0
+Reads before octets r after a = (a ≡ read_answer before octets r) × (after ≡ read_next before octets r)
+
+abbrev pub Takes : (before octets : List ℕ) → Fields → (taken : ℕ) → (after : List ℕ) → Result Received Refusal → Type 0
+Takes before octets f taken after r = (whole_of taken r ≡ fields_answer before octets f taken) × (after ≡ fields_next before octets f)
+
+-- by the identifier that stands in front of the keys
+
+abbrev pub keys_place : (block : List ℕ) → ReadKeys → ℕ
+keys_place s k = place_of_identifier s (part_in k.octets.now identifier_bounds)
+
+abbrev pub keys_verdict : (block : List ℕ) → ReadKeys → Verdict
+keys_verdict s k = Table.keys_verdict s (part_in k.octets.now identifier_bounds) k.profile k.lengths

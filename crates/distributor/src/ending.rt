@@ -5,24 +5,15 @@ ghost use Rattle.distributor.specs.Outcomes.{Does, ended_of};
 
 use crate::storing::put_down;
 use block::{BLOCK, is_up};
-use octets::refusal;
-
-#[derive(Clone, Copy)]
-pub enum Ended {
-    Refused { number: u8 },
-    Done,
-}
+use octets::Refusal;
 
 // Tunnel down, table empty; refusal 1.
-pub fn end(state: &mut [u8; BLOCK]) -> Ended
+pub fn end(state: &mut [u8; BLOCK]) -> Result<(), Refusal>
     ensures { Does Call.end state.old state.new (λ a. ended_of result ≡ a) }
 {
-    if is_up(state) {
-        put_down(state);
-        Ended::Done
-    } else {
-        Ended::Refused {
-            number: refusal::TUNNEL_DOWN,
-        }
+    if !is_up(state) {
+        return Err(Refusal::TunnelDown);
     }
+    put_down(state);
+    Ok(())
 }

@@ -2,9 +2,9 @@
 // calls"), in one block of octets that the caller lends.
 #![tactic(auto)]
 
-mod check;
 mod closing;
 mod ending;
+mod finding;
 mod initial;
 mod looking;
 mod opening;
@@ -17,11 +17,11 @@ mod storing;
 
 pub use block::{BLOCK, PLACES};
 pub use closing::close;
-pub use ending::{Ended, end};
+pub use ending::end;
 pub use initial::first_state;
-pub use looking::{Found, Looked, Record, RecordKeys, look};
-pub use opening::{Opened, open};
+pub use looking::{Padded, Record, RecordKeys, look};
+pub use opening::open;
 pub use paging::write_page;
 pub use receiving::{Received, tunnel_octets};
-pub use sending::{Sent, booth_packet};
+pub use sending::booth_packet;
 pub use starting::start;

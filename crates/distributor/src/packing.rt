@@ -23,10 +23,11 @@ fn put_four(out: &mut [u8], at: usize, n: u32)
     requires { at + 4 ≤ length out.old }
     ensures { FourPut out.old at n out.new }
 {
-    out[at] = (n / 16777216) as u8;
-    out[at + 1] = (n / 65536 % 256) as u8;
-    out[at + 2] = (n / 256 % 256) as u8;
-    out[at + 3] = (n % 256) as u8;
+    let [a, b, c, d] = n.to_be_bytes();
+    out[at] = a;
+    out[at + 1] = b;
+    out[at + 2] = c;
+    out[at + 3] = d;
 }
 
 // A number put in so many bits. Of what was put, the lowest 32 bits are kept: so what waits behind an entry comes from its
@@ -58,10 +59,9 @@ pub(crate) fn finish(out: &mut [u8], w: Packing, end: usize)
     requires { Ends out.old w end }
     ensures { Finishes out.old w end out.new }
 {
-    let mut left = end - w.at;
-    let last = w.pending % WORDS << (left * 8 - w.bits);
-    while 0 < left {
+    let count = end - w.at;
+    let last = w.pending % WORDS << (count * 8 - w.bits);
+    for left in (1..count + 1).rev() {
         out[end - left] = ((last >> (left * 8 - 8)) % 256) as u8;
-        left -= 1;
     }
 }

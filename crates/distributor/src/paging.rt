@@ -1,5 +1,5 @@
 // Write page (document 02, order 1).
-ghost use Rattle.std.specs.Prelude.{◌≡◌, cond, not, ◌+◌, ◌*◌, ◌^◌, ◌≤◌, ◌<◌, eqb, length};
+ghost use Rattle.std.specs.Prelude.{◌≡◌, cond, ◌+◌, ◌*◌, ◌^◌, ◌≤◌, ◌<◌, length};
 ghost use Rattle.status.specs.Limits.{state_bits, entry_bits, page_bits};
 ghost use Rattle.status.specs.Bits.{octets_for};
 ghost use Rattle.status.specs.Entries as Entries;
@@ -13,12 +13,11 @@ ghost use Rattle.distributor.specs.Outcomes.{Pages};
 ghost use Rattle.distributor.specs.Packing.{Puts, Room, Moved, shown_to};
 
 use crate::packing::{Packing, finish, put};
-use crate::sending::Sent;
 use block::{BLOCK, PLACES, is_up, row_at};
-use octets::refusal;
-use rows::endpoint_of;
+use octets::Refusal;
 use rows::layout::STATE;
-use status::{COUNT_BITS, ENDPOINT_BITS, ENTRY_BITS, PLACE_BITS, STATE_BITS, STATES};
+use rows::{State, endpoint_of};
+use status::{COUNT_BITS, ENDPOINT_BITS, ENTRY_BITS, Entry, PLACE_BITS, STATE_BITS, STATES};
 
 // The rows that a page shows: none while the tunnel is down.
 fn shown_rows(state: &[u8; BLOCK]) -> usize
@@ -30,7 +29,7 @@ fn shown_rows(state: &[u8; BLOCK]) -> usize
     0
 }
 
-// 0 vacant, 1 open, else keyed.
+// The state as its octet, of which the rules of a page speak (`shown_as`): `State` would be no plainer, told back at each test.
 fn state_at(state: &[u8; BLOCK], place: usize) -> u8
     ensures { result ≡ Layout.state_of (Layout.row_of state.now place) }
 {
@@ -49,12 +48,10 @@ fn live_count(state: &[u8; BLOCK], shown: usize) -> usize
     ensures { result ≡ length (entries_of (shown_to state.now shown)) }
 {
     let mut n = 0;
-    let mut place = 0;
-    while place < shown {
-        if state_at(state, place) != 0 {
+    for place in 0..shown {
+        if state_at(state, place) != State::Vacant as u8 {
             n += 1;
         }
-        place += 1;
     }
     n
 }
@@ -64,27 +61,29 @@ fn page_octets(count: usize) -> usize
     requires { count ≤ places }
     ensures { result ≡ octets_for (page_bits count) }
 {
-    (COUNT_BITS + count * ENTRY_BITS + 7) / 8
+    (COUNT_BITS + count * ENTRY_BITS).div_ceil(8)
 }
 
 // Place and state of a live place as one number; 1 is keyed.
-fn head(place: usize, state: u8) -> u64
+fn head(place: usize, keyed: bool) -> u64
     requires { place < places }
-    ensures { result ≡ place * 2 ^ state_bits + Entries.state_of (not (eqb state 1)) }
+    ensures { result ≡ place * 2 ^ state_bits + Entries.state_of keyed }
 {
-    if state == 1 {
-        return place as u64 * STATES;
-    }
-    place as u64 * STATES + 1
+    place as u64 * STATES + u64::from(keyed)
 }
 
 // The entry of a live place.
-fn put_entry(out: &mut [u8], w: Packing, place: usize, state: u8, endpoint: u32) -> Packing
-    requires { Room out.old w entry_bits × (place < places) }
-    ensures { Moved w entry_bits result × Puts out.old w (bits_of_entry (record { place = place; keyed = not (eqb state 1); endpoint = endpoint })) out.new result }
+fn put_entry(out: &mut [u8], w: Packing, entry: Entry) -> Packing
+    requires { Room out.old w entry_bits × (entry.place < places) }
+    ensures { Moved w entry_bits result × Puts out.old w (bits_of_entry entry) out.new result }
 {
-    let v = put(out, w, PLACE_BITS + STATE_BITS, head(place, state));
-    put(out, v, ENDPOINT_BITS, endpoint as u64)
+    let v = put(
+        out,
+        w,
+        PLACE_BITS + STATE_BITS,
+        head(entry.place, entry.keyed),
+    );
+    put(out, v, ENDPOINT_BITS, entry.endpoint as u64)
 }
 
 // The live places, lowest first.
@@ -93,29 +92,30 @@ fn put_places(state: &[u8; BLOCK], shown: usize, out: &mut [u8], start: Packing)
     ensures { Moved start (length (entries_of (shown_to state.now shown)) * entry_bits) result × Puts out.old start (bits_of_entries (entries_of (shown_to state.now shown))) out.new result }
 {
     let mut w = start;
-    let mut place = 0;
-    while place < shown {
+    for place in 0..shown {
         let s = state_at(state, place);
-        if s != 0 {
-            w = put_entry(out, w, place, s, endpoint_at(state, place));
+        if s != State::Vacant as u8 {
+            let entry = Entry {
+                place,
+                keyed: s != State::Open as u8,
+                endpoint: endpoint_at(state, place),
+            };
+            w = put_entry(out, w, entry);
         }
-        place += 1;
     }
     w
 }
 
 // Writes the status page; refusal 13, whatever the tunnel. The block is lent to be read: of its rows the states and the
 // endpoints are.
-pub fn write_page(state: &[u8; BLOCK], out: &mut [u8]) -> Sent
+pub fn write_page(state: &[u8; BLOCK], out: &mut [u8]) -> Result<usize, Refusal>
     ensures { Pages (Spec.answer state.now (Call.write_page (length out.old))) out.old out.new result }
 {
     let shown = shown_rows(state);
     let count = live_count(state, shown);
     let octets = page_octets(count);
     if out.len() < octets {
-        return Sent::Refused {
-            number: refusal::NO_ROOM,
-        };
+        return Err(Refusal::NoRoom);
     }
     let none = Packing {
         at: 0,
@@ -125,5 +125,5 @@ pub fn write_page(state: &[u8; BLOCK], out: &mut [u8]) -> Sent
     let start = put(out, none, COUNT_BITS, count as u64);
     let w = put_places(state, shown, out, start);
     finish(out, w, octets);
-    Sent::Written { count: octets }
+    Ok(octets)
 }

@@ -1,33 +1,29 @@
 // Tunnel octets.
-ghost use Rattle.std.specs.Prelude.{◌≡◌};
-ghost use Rattle.std.proofs.Math.Option.{some};
+ghost use Rattle.std.specs.Prelude.{◌≡◌, ◌+◌};
+ghost use Rattle.octets.specs.Bounds.{part_in};
+ghost use Rattle.octets.specs.Part.{part};
+ghost use Rattle.message.specs.Body.{content};
+ghost use Rattle.message.specs.Frame as Framing;
+ghost use Rattle.message.specs.Limits.{header};
+ghost use Rattle.message.specs.Parts.{identifier_bounds};
+ghost use Rattle.message.specs.Read as Reading;
 ghost use Rattle.rules.specs.Call as Call;
 ghost use Rattle.rules.specs.Layout as Layout;
-ghost use Rattle.message.specs.Frame as Framing;
-ghost use Rattle.message.specs.Read.{frame_answer};
 ghost use Rattle.rules.specs.Refusals.{received, receiving};
 ghost use Rattle.rules.specs.Table as Spec;
 ghost use Rattle.distributor.specs.Outcomes as Out;
 
-use crate::check::{Check, refused};
+use crate::finding::place_named;
 use crate::storing::{put_down, put_keys, put_vacant};
 use block::layout::{LIST, LIST_LIMIT};
-use block::{BLOCK, PLACES, is_up, place_of_identifier, row_at};
+use block::{BLOCK, is_up, row_at};
 use message::limits::{BEFORE_DTLS, HEADER};
-use message::{Body, Fields, Frame, KeyLengths, Kind};
-use octets::{Bounds, refusal};
-use rows::endpoint_of;
+use message::{Fields, Frame, Kind, Message, Refused};
+use octets::{Bounds, Refusal};
+use rows::{ReadKeys, endpoint_of};
 
 #[derive(Clone, Copy)]
 pub enum Received {
-    Refused {
-        number: u8,
-        taken: usize,
-    },
-    // Refusal 5.
-    BadBody {
-        taken: usize,
-    },
     MoreNeeded,
     // The endpoint of the association that the message names, here and below.
     KeysStored {
@@ -50,203 +46,172 @@ pub enum Received {
     },
 }
 
-// The octets of a whole SupportedProfiles; 0 for any other kind.
-fn profiles_of(kind: Kind, body_length: u16) -> usize
-    ensures { result ≡ Out.profiles_in (Framing.whole kind body_length) }
-{
-    match kind {
-        Kind::SupportedProfiles => HEADER + body_length as usize,
-        Kind::UnsupportedVersion => 0,
-        Kind::MediaKeys => 0,
-        Kind::TunneledDtls => 0,
-        Kind::EndpointDisconnect => 0,
-        Kind::Unlisted => 0,
-    }
-}
-
 // The profile list that the tunnel started with.
-fn list_of(state: &[u8]) -> &[u8]
+fn list_of(state: &[u8; BLOCK]) -> &[u8]
     ensures { result.now ≡ Layout.list_of state.now }
 {
     let field = octets::part(state, LIST + 1, LIST + 1 + LIST_LIMIT);
     octets::part(field, 0, octets::octet(state, LIST) as usize)
 }
 
-fn check_keys(state: &[u8; BLOCK], identifier: &[u8], profile: u16, lengths: KeyLengths) -> Check
-    ensures { result ≡ Out.checked (Spec.keys_verdict state.now identifier.now profile lengths) (Spec.place_of_identifier state.now identifier.now) }
+fn check_keys(state: &[u8; BLOCK], keys: ReadKeys<'_>) -> Result<usize, Refusal>
+    ensures { Out.Checks (Out.keys_verdict state.now keys.entry) (Out.keys_place state.now keys.entry) result }
 {
-    let place = place_of_identifier(state, identifier);
-    if PLACES <= place {
-        return refused(refusal::NO_ASSOCIATION);
+    let place = place_named(state, message::identifier(keys.octets))?;
+    if !message::in_list(keys.profile, list_of(state)) {
+        return Err(Refusal::ProfileNotOffered);
     }
-    if !message::in_list(profile, list_of(state)) {
-        return refused(refusal::PROFILE_NOT_OFFERED);
+    if !keys.lengths.keys_fit(keys.profile) {
+        return Err(Refusal::KeyLength);
     }
-    if !message::keys_fit(profile, lengths) {
-        return refused(refusal::KEY_LENGTH);
+    if !keys.lengths.mki_and_salts_fit() {
+        return Err(Refusal::MkiOrSaltLength);
     }
-    if !message::mki_and_salts_fit(lengths) {
-        return refused(refusal::MKI_OR_SALT_LENGTH);
-    }
-    Check::Allowed { place }
+    Ok(place)
 }
 
 // MediaKeys: all key fields are replaced, or none.
-fn take_keys(
-    state: &mut [u8; BLOCK],
-    s: &[u8],
-    profile: u16,
-    lengths: KeyLengths,
-    taken: usize,
-) -> Received
-    ensures { (Out.received_of result ≡ some (Spec.fields_answer state.old s.now (Fields.MediaKeys profile lengths) taken)) × (state.new ≡ Spec.fields_next state.old s.now (Fields.MediaKeys profile lengths)) }
+fn take_keys(state: &mut [u8; BLOCK], keys: ReadKeys<'_>, taken: usize) -> Result<Received, Refusal>
+    ensures { Out.Takes state.old keys.entry.octets.now (Fields.MediaKeys keys.entry.profile keys.entry.lengths) taken state.new result }
 {
-    let identifier = message::identifier(s);
-    match check_keys(state, identifier, profile, lengths) {
-        Check::Allowed { place } => {
-            let endpoint = endpoint_of(row_at(state, place));
-            put_keys(state, place, s, profile, lengths);
-            Received::KeysStored { endpoint, taken }
-        }
-        Check::Refused { number } => Received::Refused { number, taken },
-    }
+    let place = check_keys(state, keys)?;
+    let endpoint = endpoint_of(row_at(state, place));
+    put_keys(state, place, keys);
+    Ok(Received::KeysStored { endpoint, taken })
 }
 
 // TunneledDtls: the octets and their endpoint.
-fn deliver(state: &[u8; BLOCK], s: &[u8], dtls_length: u16, taken: usize) -> Received
-    ensures { Out.received_of result ≡ some (Spec.fields_answer state.now s.now (Fields.TunneledDtls dtls_length) taken) }
+fn deliver(
+    state: &[u8; BLOCK],
+    s: &[u8],
+    dtls_length: u16,
+    taken: usize,
+) -> Result<Received, Refusal>
+    ensures { Out.Takes state.now s.now (Fields.TunneledDtls dtls_length) taken state.now result }
 {
-    let identifier = message::identifier(s);
-    let place = place_of_identifier(state, identifier);
-    if place < PLACES {
-        Received::Delivery {
-            endpoint: endpoint_of(row_at(state, place)),
-            dtls: message::dtls_bounds(dtls_length),
-            taken,
-        }
-    } else {
-        Received::Refused {
-            number: refusal::NO_ASSOCIATION,
-            taken,
-        }
-    }
+    let place = place_named(state, message::identifier(s))?;
+    Ok(Received::Delivery {
+        endpoint: endpoint_of(row_at(state, place)),
+        dtls: message::dtls_bounds(dtls_length),
+        taken,
+    })
 }
 
 // EndpointDisconnect: the record is removed.
-fn disconnect(state: &mut [u8; BLOCK], s: &[u8], taken: usize) -> Received
-    ensures { (Out.received_of result ≡ some (Spec.fields_answer state.old s.now Fields.EndpointDisconnect taken)) × (state.new ≡ Spec.fields_next state.old s.now Fields.EndpointDisconnect) }
+fn disconnect(state: &mut [u8; BLOCK], s: &[u8], taken: usize) -> Result<Received, Refusal>
+    ensures { Out.Takes state.old s.now Fields.EndpointDisconnect taken state.new result }
 {
-    let identifier = message::identifier(s);
-    let place = place_of_identifier(state, identifier);
-    if place < PLACES {
-        let endpoint = endpoint_of(row_at(state, place));
-        put_vacant(state, place);
-        Received::Disconnected { endpoint, taken }
-    } else {
-        Received::Refused {
-            number: refusal::NO_ASSOCIATION,
-            taken,
-        }
-    }
+    let place = place_named(state, message::identifier(s))?;
+    let endpoint = endpoint_of(row_at(state, place));
+    put_vacant(state, place);
+    Ok(Received::Disconnected { endpoint, taken })
 }
 
-fn take_fields(state: &mut [u8; BLOCK], s: &[u8], fields: Fields, taken: usize) -> Received
-    ensures { (Out.received_of result ≡ some (Spec.fields_answer state.old s.now fields taken)) × (state.new ≡ Spec.fields_next state.old s.now fields) }
+fn take_message(state: &mut [u8; BLOCK], s: &[u8], message: Message) -> Result<Received, Refusal>
+    ensures { Out.Takes state.old s.now message.fields message.taken state.new result }
 {
-    match fields {
-        Fields::SupportedProfiles {
-            version: _,
-            list_length: _,
-        } => Received::Refused {
-            number: refusal::WRONG_DIRECTION,
-            taken,
-        },
+    let taken = message.taken;
+    match message.fields {
+        Fields::SupportedProfiles { .. } => Err(Refusal::WrongDirection),
         Fields::UnsupportedVersion { version } => {
             put_down(state);
-            Received::Version { version, taken }
+            Ok(Received::Version { version, taken })
         }
-        Fields::MediaKeys { profile, lengths } => take_keys(state, s, profile, lengths, taken),
+        Fields::MediaKeys { profile, lengths } => {
+            let keys = ReadKeys {
+                octets: s,
+                profile,
+                lengths,
+            };
+            take_keys(state, keys, taken)
+        }
         Fields::TunneledDtls { dtls_length } => deliver(state, s, dtls_length, taken),
         Fields::EndpointDisconnect => disconnect(state, s, taken),
     }
 }
 
-// A whole message that is no SupportedProfiles, by its body.
-fn take_body(state: &mut [u8; BLOCK], s: &[u8], kind: Kind, body_length: u16) -> Received
-    ensures { (Out.received_of result ≡ some (Spec.read_answer state.old s.now (frame_answer s.now (Framing.whole kind body_length)))) × (state.new ≡ Spec.read_next state.old s.now (frame_answer s.now (Framing.whole kind body_length))) }
+// A refused message is taken, too.
+fn taken_whole(answer: Result<Received, Refusal>, taken: usize) -> Result<Received, Refused>
+    ensures { Out.received_of result ≡ Out.whole_of taken answer }
 {
-    let taken = HEADER + body_length as usize;
-    match message::read_body(kind, octets::part(s, HEADER, taken)) {
-        Body::Unlisted => Received::Refused {
-            number: refusal::UNLISTED_TYPE,
-            taken,
-        },
-        Body::Bad => Received::BadBody { taken },
-        Body::Good { fields } => take_fields(state, s, fields, taken),
-    }
+    answer.map_err(|refusal| Refused { refusal, taken })
+}
+
+// A whole message that is no SupportedProfiles, by its body.
+fn take_body(
+    state: &mut [u8; BLOCK],
+    s: &[u8],
+    kind: Kind,
+    taken: usize,
+) -> Result<Received, Refusal>
+    ensures { Out.Reads state.old s.now (Reading.body_answer taken (content kind (part s.now header taken))) state.new (Out.whole_of taken result) }
+{
+    let fields = message::read_body(kind, octets::part(s, HEADER, taken))?;
+    take_message(state, s, Message { fields, taken })
 }
 
 // A whole message: refusal 4 comes before its body.
-fn take_whole(state: &mut [u8; BLOCK], s: &[u8], kind: Kind, body_length: u16) -> Received
-    ensures { (Out.received_of result ≡ some (Spec.read_answer state.old s.now (received s.now (Framing.whole kind body_length)))) × (state.new ≡ Spec.read_next state.old s.now (received s.now (Framing.whole kind body_length))) }
+fn take_whole(
+    state: &mut [u8; BLOCK],
+    s: &[u8],
+    kind: Kind,
+    body_length: u16,
+) -> Result<Received, Refused>
+    ensures { Out.Reads state.old s.now (received s.now (Framing.whole kind body_length)) state.new (Out.received_of result) }
 {
-    let profiles = profiles_of(kind, body_length);
-    if profiles != 0 {
-        return Received::Refused {
-            number: refusal::WRONG_DIRECTION,
-            taken: profiles,
-        };
+    let taken = HEADER + body_length as usize;
+    if kind == Kind::SupportedProfiles {
+        return Err(Refused {
+            refusal: Refusal::WrongDirection,
+            taken,
+        });
     }
-    take_body(state, s, kind, body_length)
+    taken_whole(take_body(state, s, kind, taken), taken)
 }
 
-// What the front of the octets holds, with the tunnel up: the long way.
-fn receive_long(state: &mut [u8; BLOCK], s: &[u8]) -> Received
-    ensures { (Out.received_of result ≡ some (Spec.read_answer state.old s.now (receiving s.now))) × (state.new ≡ Spec.read_next state.old s.now (receiving s.now)) }
+// What the front of the octets holds, with the tunnel up: the long way. Refusal 2 ends the tunnel.
+fn receive_long(state: &mut [u8; BLOCK], s: &[u8]) -> Result<Received, Refused>
+    ensures { Out.Reads state.old s.now (receiving s.now) state.new (Out.received_of result) }
 {
     match message::read_frame(s) {
-        Frame::MoreNeeded => Received::MoreNeeded,
-        Frame::EmptyVersion => Received::BadBody { taken: HEADER },
-        Frame::Version { version } => {
+        Ok(None) => Ok(Received::MoreNeeded),
+        Ok(Some(Frame::Version { version })) => {
             put_down(state);
-            Received::Version {
+            Ok(Received::Version {
                 version,
                 taken: s.len(),
-            }
+            })
         }
-        Frame::Oversize => {
-            put_down(state);
-            Received::Refused {
-                number: refusal::OVERSIZE,
-                taken: 0,
+        Ok(Some(Frame::Whole { kind, body_length })) => take_whole(state, s, kind, body_length),
+        Err(refused) => {
+            if refused.refusal == Refusal::Oversize {
+                put_down(state);
             }
+            Err(refused)
         }
-        Frame::Whole { kind, body_length } => take_whole(state, s, kind, body_length),
     }
 }
 
 // A whole TunneledDtls takes the short way: it is what comes most.
-fn receive(state: &mut [u8; BLOCK], s: &[u8]) -> Received
-    ensures { (Out.received_of result ≡ some (Spec.read_answer state.old s.now (receiving s.now))) × (state.new ≡ Spec.read_next state.old s.now (receiving s.now)) }
+fn receive(state: &mut [u8; BLOCK], s: &[u8]) -> Result<Received, Refused>
+    ensures { Out.Reads state.old s.now (receiving s.now) state.new (Out.received_of result) }
 {
-    let dtls_length = message::dtls_length(s);
-    if dtls_length != 0 {
+    if let Some(dtls_length) = message::dtls_length(s) {
         let taken = BEFORE_DTLS + dtls_length as usize;
-        return deliver(state, s, dtls_length, taken);
+        return taken_whole(deliver(state, s, dtls_length, taken), taken);
     }
     receive_long(state, s)
 }
 
 // Octets from the key distributor: 1, then the reading; type 3: 6, 7, 8, 9; types 4 and 5: 6.
-pub fn tunnel_octets(state: &mut [u8; BLOCK], s: &[u8]) -> Received
-    ensures { Out.Does (Call.tunnel_octets s.now) state.old state.new (λ a. Out.received_of result ≡ some a) }
+pub fn tunnel_octets(state: &mut [u8; BLOCK], s: &[u8]) -> Result<Received, Refused>
+    ensures { Out.Does (Call.tunnel_octets s.now) state.old state.new (λ a. Out.received_of result ≡ a) }
 {
-    if is_up(state) {
-        receive(state, s)
-    } else {
-        Received::Refused {
-            number: refusal::TUNNEL_DOWN,
+    if !is_up(state) {
+        return Err(Refused {
+            refusal: Refusal::TunnelDown,
             taken: 0,
-        }
+        });
     }
+    receive(state, s)
 }

@@ -1,107 +1,84 @@
-// Booth packet, and what calls that write answer.
-ghost use Rattle.std.specs.Prelude.{◌≡◌, cond, ◌+◌, ltb, length};
+// Booth packet.
+ghost use Rattle.std.specs.Prelude.{◌≡◌, not, cond, ◌+◌, ltb, length};
+ghost use Rattle.octets.specs.Refusal.{number_of};
 ghost use Rattle.message.specs.Limits.{header, width};
 ghost use Rattle.rules.specs.Call as Call;
 ghost use Rattle.rules.specs.Layout.{block_length};
-ghost use Rattle.rules.specs.Refusals.{is_dtls_kind, not_dtls, too_long};
+ghost use Rattle.rules.specs.Refusals.{not_dtls, too_long};
 ghost use Rattle.rules.specs.Table as Spec;
-ghost use Rattle.distributor.specs.Outcomes.{checked, Sends};
+ghost use Rattle.rules.specs.Verdict.{allowed, refuse};
+ghost use Rattle.distributor.specs.Outcomes.{Checks, Sends};
 
-use crate::check::{Check, refused};
-use block::{BLOCK, PLACES, is_served, is_up, place_of_endpoint, row_at};
-use demux::{Kind, Sorted};
-use message::limits::{BEFORE_DTLS, DTLS_LIMIT};
-use octets::refusal;
-use rows::array16;
+use crate::finding::place_served;
+use block::{BLOCK, is_served, is_up, row_at};
+use demux::Kind;
+use message::limits::{BEFORE_DTLS, DTLS_LIMIT, WIDTH};
+use octets::Refusal;
 use rows::layout::IDENTIFIER;
 
-#[derive(Clone, Copy)]
-pub enum Sent {
-    Refused { number: u8 },
-    Written { count: usize },
+#[tactic(auto, using(crate::proofs::SortLaws::dtls_kind), unfolding(rules::specs::Refusals::not_dtls))]
+fn is_dtls(packet: &[u8]) -> bool
+    ensures { not result ≡ not_dtls packet.now }
+{
+    demux::sort(packet).is_ok_and(|kind| kind == Kind::Dtls)
 }
 
-// By the kind alone, so that the proof of `is_not_dtls` does not grow with the kinds.
-fn is_dtls(kind: Kind) -> bool
-    ensures { result ≡ is_dtls_kind kind }
+// A packet by itself.
+fn check_alone(packet: &[u8], room: usize) -> Result<(), Refusal>
+    ensures { Checks (refuse (not_dtls packet.now) 14 (refuse (too_long packet.now) 15 (refuse (ltb room (header + width + 2 + length packet.now)) 13 allowed))) tt result }
 {
-    match kind {
-        Kind::Stun => false,
-        Kind::Zrtp => false,
-        Kind::Dtls => true,
-        Kind::TurnChannel => false,
-        Kind::Rtp => false,
-        Kind::Other => false,
-    }
-}
-
-fn is_not_dtls(packet: &[u8]) -> bool
-    ensures { result ≡ not_dtls packet.now }
-{
-    match demux::sort(packet) {
-        Sorted::Empty => true,
-        Sorted::Packet(kind) => !is_dtls(kind),
-    }
-}
-
-// The refusal of a packet by itself, or 0.
-fn packet_refusal(packet: &[u8], room: usize) -> u8
-    ensures { result ≡ cond (not_dtls packet.now) 14 (cond (too_long packet.now) 15 (cond (ltb room (header + width + 2 + length packet.now)) 13 0)) }
-{
-    if is_not_dtls(packet) {
-        return refusal::NOT_DTLS;
+    if !is_dtls(packet) {
+        return Err(Refusal::NotDtls);
     }
     if packet.len() <= DTLS_LIMIT {
         if BEFORE_DTLS + packet.len() <= room {
-            return 0;
+            return Ok(());
         }
-        return refusal::NO_ROOM;
+        return Err(Refusal::NoRoom);
     }
-    refusal::PACKET_TOO_LONG
+    Err(Refusal::PacketTooLong)
 }
 
 // A packet that is refused by itself. Without an association for its endpoint the refusal is 6, which comes first.
-fn refused_packet(state: &[u8; BLOCK], endpoint: u32, number: u8) -> Check
-    ensures { result ≡ Check.Refused (cond (Spec.serves state.now endpoint) number 6) }
+fn earlier(state: &[u8; BLOCK], endpoint: u32, refusal: Refusal) -> Refusal
+    ensures { number_of result ≡ cond (Spec.serves state.now endpoint) (number_of refusal) 6 }
 {
     if is_served(state, endpoint) {
-        return refused(number);
+        refusal
+    } else {
+        Refusal::NoAssociation
     }
-    refused(refusal::NO_ASSOCIATION)
 }
 
 // The search comes last: fewer values are kept in registers beside it. The block's length is told on: by it the identifier
 // of the row has its width.
-fn check_packet(state: &[u8; BLOCK], endpoint: u32, packet: &[u8], room: usize) -> Check
-    ensures { (length state.now ≡ block_length) × (result ≡ checked (Spec.packet_verdict state.now endpoint packet.now room) (Spec.place_of_endpoint state.now endpoint)) }
+fn check_packet(
+    state: &[u8; BLOCK],
+    endpoint: u32,
+    packet: &[u8],
+    room: usize,
+) -> Result<usize, Refusal>
+    ensures { (length state.now ≡ block_length) × Checks (Spec.packet_verdict state.now endpoint packet.now room) (Spec.place_of_endpoint state.now endpoint) result }
 {
     if !is_up(state) {
-        return refused(refusal::TUNNEL_DOWN);
+        return Err(Refusal::TunnelDown);
     }
-    let number = packet_refusal(packet, room);
-    if number != 0 {
-        return refused_packet(state, endpoint, number);
+    match check_alone(packet, room) {
+        Ok(()) => place_served(state, endpoint),
+        Err(refusal) => Err(earlier(state, endpoint, refusal)),
     }
-    let found = place_of_endpoint(state, endpoint);
-    let place = found.place;
-    if PLACES <= place {
-        return refused(refusal::NO_ASSOCIATION);
-    }
-    Check::Allowed { place }
 }
 
 // Writes TunneledDtls for an endpoint's association; refusals 1, 6, 14, 15, 13. The block is lent to be read.
-pub fn booth_packet(state: &[u8; BLOCK], endpoint: u32, packet: &[u8], out: &mut [u8]) -> Sent
+pub fn booth_packet(
+    state: &[u8; BLOCK],
+    endpoint: u32,
+    packet: &[u8],
+    out: &mut [u8],
+) -> Result<usize, Refusal>
     ensures { Sends (Spec.answer state.now (Call.booth_packet endpoint packet.now (length out.old))) out.old out.new result }
 {
-    match check_packet(state, endpoint, packet, out.len()) {
-        Check::Allowed { place } => {
-            let identifier = array16(row_at(state, place), IDENTIFIER);
-            writers::write_tunneled_dtls(&identifier, packet, out);
-            Sent::Written {
-                count: BEFORE_DTLS + packet.len(),
-            }
-        }
-        Check::Refused { number } => Sent::Refused { number },
-    }
+    let place = check_packet(state, endpoint, packet, out.len())?;
+    let identifier = rows::array::<WIDTH>(row_at(state, place), IDENTIFIER);
+    writers::write_tunneled_dtls(&identifier, packet, out)
 }

@@ -1,15 +1,14 @@
 // Rows of the block lent to be written, and whole blocks.
 ghost use Rattle.std.specs.Prelude.{◌≡◌, ◌<◌, ◌≤◌, length};
 ghost use Rattle.rules.specs.Limits.{places, list_limit};
-ghost use Rattle.rules.specs.Keys.{keys_in};
 ghost use Rattle.rules.specs.Layout as Spec;
 ghost use Rattle.rules.specs.Index as Index;
+ghost use Rattle.rows.specs.ReadKeys.{keys_read};
 
 use block::layout::{LIST, LIST_LIMIT, TUNNEL};
 use block::{BLOCK, put_in, row_at, take_out};
-use message::KeyLengths;
 use rows::layout::ROW;
-use rows::{key_row, open_row, put_padded};
+use rows::{ReadKeys, key_row, open_row, put_padded};
 
 // The row, and its entry in the index.
 pub(crate) fn put_open(state: &mut [u8; BLOCK], place: usize, identifier: &[u8], endpoint: u32)
@@ -20,8 +19,8 @@ pub(crate) fn put_open(state: &mut [u8; BLOCK], place: usize, identifier: &[u8],
     put_in(state, endpoint, place as u8);
 }
 
-fn put_open_row(state: &mut [u8], place: usize, identifier: &[u8], endpoint: u32)
-    requires { (length state.old ≡ Spec.block_length) × (place < places) }
+fn put_open_row(state: &mut [u8; BLOCK], place: usize, identifier: &[u8], endpoint: u32)
+    requires { place < places }
     ensures { state.new ≡ Spec.with_row state.old place (Spec.open_row identifier.now endpoint) }
 {
     let start = place * ROW;
@@ -29,13 +28,13 @@ fn put_open_row(state: &mut [u8], place: usize, identifier: &[u8], endpoint: u32
     open_row(&mut state[start..end], identifier, endpoint);
 }
 
-pub(crate) fn put_keys(state: &mut [u8], place: usize, s: &[u8], profile: u16, lengths: KeyLengths)
-    requires { (length state.old ≡ Spec.block_length) × (place < places) }
-    ensures { state.new ≡ Spec.with_row state.old place (Spec.keyed_row (keys_in s.now profile lengths) (Spec.row_of state.old place)) }
+pub(crate) fn put_keys(state: &mut [u8; BLOCK], place: usize, keys: ReadKeys<'_>)
+    requires { place < places }
+    ensures { state.new ≡ Spec.with_row state.old place (Spec.keyed_row (keys_read keys.entry) (Spec.row_of state.old place)) }
 {
     let start = place * ROW;
     let end = start + ROW;
-    key_row(&mut state[start..end], s, profile, lengths);
+    key_row(&mut state[start..end], keys);
 }
 
 pub(crate) fn put_vacant(state: &mut [u8; BLOCK], place: usize)
@@ -47,24 +46,23 @@ pub(crate) fn put_vacant(state: &mut [u8; BLOCK], place: usize)
     take_out(state, endpoint);
 }
 
-fn put_vacant_row(state: &mut [u8], place: usize)
-    requires { (length state.old ≡ Spec.block_length) × (place < places) }
+fn put_vacant_row(state: &mut [u8; BLOCK], place: usize)
+    requires { place < places }
     ensures { state.new ≡ Spec.with_row state.old place Spec.vacant_row }
 {
     put_padded(state, place * ROW, ROW, b"");
 }
 
 // Tunnel down, table empty.
-pub(crate) fn put_down(state: &mut [u8])
-    requires { length state.old ≡ Spec.block_length }
+pub(crate) fn put_down(state: &mut [u8; BLOCK])
     ensures { state.new ≡ Spec.down_block }
 {
     put_padded(state, 0, BLOCK, b"");
 }
 
 // Tunnel up with a profile list, table empty.
-pub(crate) fn put_up(state: &mut [u8], list: &[u8])
-    requires { (length state.old ≡ Spec.block_length) × (length list.now ≤ list_limit) }
+pub(crate) fn put_up(state: &mut [u8; BLOCK], list: &[u8])
+    requires { length list.now ≤ list_limit }
     ensures { state.new ≡ Spec.up_block list.now }
 {
     put_padded(state, 0, BLOCK, b"");

@@ -20,7 +20,6 @@ use Rattle.ekt.specs.Parts.{front_bounds, ciphertext_bounds, data_bounds, front,
 use Rattle.ekt.specs.declared.splitting.Form.{Form}
 use Rattle.ekt.specs.Claims.{Splits}
 use Rattle.ekt.proofs.LengthLaws.{does_fit, length_there}
-use Rattle.ekt.proofs.SplitLaws.{by_last}
 
 -- it is enough to know the answer and the parts between its bounds
 splits : (p : List ℕ) (s : Split) (f c d : List ℕ) → splitting p ≡ s
@@ -46,10 +45,11 @@ front_at f q = part_behind [] f q 0 (length f) refl (omega arith)
 module _ (p a : List ℕ) where
   -- a packet that ends in an octet splits by that octet
   ends_in : (t : ℕ) → p ≡ a ++ (t ∷ []) → splitting p ≡ split_form p t (form_of t)
+  unfolding splitting
   ends_in t e =
       let n : length p ≡ length a + 1 = ap length e ∙ length-append a (t ∷ []) in
       let l : octet_at p (length p - 1) ≡ t = ap (λ (x : List ℕ). octet_at x (length p - 1)) e ∙ get_or_at a t [] 0 (length p - 1) (omega arith) in
-      by_last p (λ z. omega arith) ∙ ap (λ (x : ℕ). split_form p x (form_of x)) l
+      rw (ne_eqb (length p) 0 (omega arith), l)
 
   -- the length of a tag, where it stands
   ends_in_length : (n t : ℕ) → n < 65536 → p ≡ a ++ (octets16 n ++ (t ∷ [])) → tag_length p ≡ n

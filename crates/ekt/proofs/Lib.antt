@@ -1,5 +1,4 @@
 pub mod LengthLaws
-pub mod SplitLaws
 pub mod Built
 pub mod Accepted
 pub mod Refusal

@@ -1,8 +1,7 @@
 -- Splitting refuses exactly when no tag of the grammar ends the packet.
 use Prim.Native.Nat.{ℕ}
-use mathlib.Core.Path.{◌≡◌, refl, sym, ap, ◌∙◌}
+use mathlib.Core.Path.{◌≡◌, ap}
 use mathlib.Core.List.{List, ◌++◌}
-use native.Mathlib.Omega.{arith}
 use Rattle.octets.specs.Number.{Octets}
 use Rattle.octets.specs.Part.{part}
 use Rattle.ekt.specs.Grammar
@@ -12,25 +11,12 @@ use Rattle.ekt.proofs.Built.{short_splits, full_splits, extension_splits}
 use Rattle.ekt.specs.Claims.{Says, Ends}
 use Rattle.ekt.proofs.Accepted.{split_says}
 
--- an answer is a refusal
-abbrev IsRefused : Split → ℕ
-IsRefused (refused number) = 1
-IsRefused (short start) = 0
-IsRefused (full spi epoch start end) = 0
-IsRefused (extension message_type start end) = 0
-
-accepted : {s : Split} (p : List ℕ) (n : ℕ) → splitting p ≡ s → IsRefused s ≡ 0 → splitting p ≡ refused n → ⊥
-accepted p n e z h =
-    let k : ◌≡◌ {A = ℕ} 1 0 = ap IsRefused (sym h ∙ e) ∙ z in
-    omega arith
-
 -- where a tag ends the packet, the packet is not refused
 pub refused_none : (f t : List ℕ) → IsTag t → splitting (f ++ t) ≡ refused 18 → ⊥
-refused_none f t Grammar.short h = accepted (f ++ short_tag) 18 (short_splits f).answer refl h
-refused_none f t (Grammar.full c spi epoch h1 h2 h3 h4) h =
-    accepted (f ++ full_tag c spi epoch) 18 (full_splits f c spi epoch h1 h2 h3 h4).answer refl h
+refused_none f t Grammar.short h = cc (short_splits f).answer
+refused_none f t (Grammar.full c spi epoch h1 h2 h3 h4) h = cc (full_splits f c spi epoch h1 h2 h3 h4).answer
 refused_none f t (Grammar.extension message_type d h1 h2 h3 h4) h =
-    accepted (f ++ extension_tag message_type d) 18 (extension_splits f d message_type h1 h2 h3 h4).answer refl h
+    cc (extension_splits f d message_type h1 h2 h3 h4).answer
 
 -- where none does, it is refused
 pub none_refused : (p : List ℕ) → Octets p → ((f t : List ℕ) → IsTag t → f ++ t ≡ p → ⊥) → splitting p ≡ refused 18

@@ -1,7 +1,9 @@
 -- Splitting a packet from its tag, read from the last octet backwards: document 01, "Splitting the EKT tag".
-use Rattle.std.specs.Prelude.{ℕ, ◌+◌, ◌-◌, Bool, cond, ◌&&◌, List, length, leb, ltb, eqb}
+use Rattle.std.specs.Prelude.{ℕ, ◌+◌, ◌-◌, Bool, cond, ◌&&◌, List, length, leb, ltb, eqb, Result, Ok, Err}
 use Rattle.octets.specs.Number.{octet_at, number16_at}
 use Rattle.octets.specs.Range.{within}
+use Rattle.octets.specs.Refusal.{number_of}
+use Rattle.octets.specs.declared.refusal.Refusal.{Refusal}
 use Rattle.ekt.specs.Limits.{ciphertext_limit, data_limit, full_trailer, extension_trailer}
 use Rattle.ekt.specs.declared.splitting.Form.{Form}
 use Rattle.ekt.specs.declared.splitting.Form.TheVariants.{Short, Full, Extension, Unavailable}
@@ -31,6 +33,10 @@ tag_length p = cond (ltb (length p) 3) 0 (number16_at p (length p - 3))
 unfoldable pub length_fits : List ℕ → (trailer most : ℕ) → Bool
 length_fits p trailer most = within (trailer + 1) (trailer + most) (tag_length p) && leb (tag_length p) (length p)
 
+-- where such a tag starts, or the refusal
+abbrev pub tag_start : List ℕ → (trailer most : ℕ) → Result ℕ Refusal
+tag_start p trailer most = cond (length_fits p trailer most) (Ok (length p - tag_length p)) (Err Refusal.NoTag)
+
 unfoldable pub split_full : List ℕ → Split
 split_full p =
     cond (length_fits p full_trailer ciphertext_limit)
@@ -54,9 +60,13 @@ splitting p =
     cond (eqb (length p) 0) (refused 18)
     (split_form p (octet_at p (length p - 1)) (form_of (octet_at p (length p - 1))))
 
--- the number and the values that each case of the enum stands for
-abbrev pub answer_of : Tag → Split
-answer_of Tag.NoTag = refused 18
-answer_of (Tag.Short start) = short start
-answer_of (Tag.Full spi epoch start end) = full spi epoch start end
-answer_of (Tag.Extension message_type start end) = extension message_type start end
+-- the values of each case of a tag
+abbrev pub tag_of : Tag → Split
+tag_of (Tag.Short start) = short start
+tag_of (Tag.Full spi epoch start end) = full spi epoch start end
+tag_of (Tag.Extension message_type start end) = extension message_type start end
+
+-- the number or the tag that a result stands for
+abbrev pub answer_of : Result Tag Refusal → Split
+answer_of (Err refusal) = refused (number_of refusal)
+answer_of (Ok tag) = tag_of tag

@@ -1,80 +1,43 @@
 // The parts of a packet with a tag, lent from the packet itself. A part that is not there is empty.
+// Bounds of an answer, refused or not, and no Option: C is answered 0 to 0 where there is no such part.
 ghost use Rattle.std.specs.Prelude.{◌≡◌};
 ghost use Rattle.ekt.specs.Splitting.{answer_of};
 ghost use Rattle.ekt.specs.Parts as Spec;
 
 use crate::splitting::{Tag, split};
-use octets::{Bounds, NOWHERE};
+use octets::{Bounds, NOWHERE, Refusal};
 
 // Where the packet in front of its tag stands.
-pub fn front_bounds(tag: Tag) -> Bounds
-    ensures { result ≡ Spec.front_bounds (answer_of tag) }
+pub fn front_bounds(answer: Result<Tag, Refusal>) -> Bounds
+    ensures { result ≡ Spec.front_bounds (answer_of answer) }
 {
-    match tag {
-        Tag::NoTag => NOWHERE,
-        Tag::Short { start } => Bounds {
-            start: 0,
-            end: start,
-        },
-        Tag::Full {
-            spi: _,
-            epoch: _,
-            start,
-            end: _,
-        } => Bounds {
-            start: 0,
-            end: start,
-        },
-        Tag::Extension {
-            message_type: _,
-            start,
-            end: _,
-        } => Bounds {
-            start: 0,
-            end: start,
-        },
+    match answer {
+        Ok(Tag::Short { start } | Tag::Full { start, .. } | Tag::Extension { start, .. }) =>
+            Bounds {
+                start: 0,
+                end: start,
+            },
+        Err(_) => NOWHERE,
     }
 }
 
 // Where the ciphertext of a Full tag stands.
-pub fn ciphertext_bounds(tag: Tag) -> Bounds
-    ensures { result ≡ Spec.ciphertext_bounds (answer_of tag) }
+pub fn ciphertext_bounds(answer: Result<Tag, Refusal>) -> Bounds
+    ensures { result ≡ Spec.ciphertext_bounds (answer_of answer) }
 {
-    match tag {
-        Tag::NoTag => NOWHERE,
-        Tag::Short { start: _ } => NOWHERE,
-        Tag::Full {
-            spi: _,
-            epoch: _,
-            start,
-            end,
-        } => Bounds { start, end },
-        Tag::Extension {
-            message_type: _,
-            start: _,
-            end: _,
-        } => NOWHERE,
+    match answer {
+        Ok(Tag::Full { start, end, .. }) => Bounds { start, end },
+        _ => NOWHERE,
     }
 }
 
 // Where the data of an Extension tag stands.
-pub fn data_bounds(tag: Tag) -> Bounds
-    ensures { result ≡ Spec.data_bounds (answer_of tag) }
+pub fn data_bounds(answer: Result<Tag, Refusal>) -> Bounds
+    ensures { result ≡ Spec.data_bounds (answer_of answer) }
 {
-    match tag {
-        Tag::NoTag => NOWHERE,
-        Tag::Short { start: _ } => NOWHERE,
-        Tag::Full {
-            spi: _,
-            epoch: _,
-            start: _,
-            end: _,
-        } => NOWHERE,
-        Tag::Extension {
-            message_type: _,
-            start,
-            end,
-        } => Bounds { start, end },
+    match answer {
+        Ok(Tag::Extension { start, end, .. }) => Bounds { start, end },
+        _ => NOWHERE,
     }
 }
 

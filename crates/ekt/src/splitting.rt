@@ -1,6 +1,8 @@
 // Splitting a packet from its EKT tag, read from the last octet backwards.
-ghost use Rattle.std.specs.Prelude.{◌≡◌};
+ghost use Rattle.std.specs.Prelude.{◌≡◌, ◌≤◌, length, unwrap_or, OnOk};
 ghost use Rattle.ekt.specs.Splitting as Spec;
+
+use octets::Refusal;
 
 // The longest ciphertext.
 const CIPHERTEXT_LIMIT: u16 = 251;
@@ -15,7 +17,7 @@ const FULL_TRAILER: u16 = 7;
 const EXTENSION_TRAILER: u16 = 3;
 
 // What the last octet says.
-#[derive(Clone, Copy)]
+#[derive(Clone, Copy, Debug, PartialEq, Eq)]
 enum Form {
     Short,
     Full,
@@ -26,10 +28,8 @@ enum Form {
 
 // A tag, with its bounds in the packet: the front is what stands before start, and the
 // ciphertext or the extension's data goes from start to end.
-#[derive(Clone, Copy)]
+#[derive(Clone, Copy, Debug, PartialEq, Eq)]
 pub enum Tag {
-    // Refusal 18: no tag of the grammar ends this packet.
-    NoTag,
     Short {
         start: usize,
     },
@@ -47,78 +47,82 @@ pub enum Tag {
 }
 
 // The form that a type octet stands for.
-fn form_of(message_type: u8) -> Form
-    ensures { result ≡ Spec.form_of message_type }
-{
-    match message_type {
-        0 => Form::Short,
-        1 => Form::Unavailable,
-        2 => Form::Full,
-        3..=255 => Form::Extension,
+impl From<u8> for Form {
+    ghost from_gives = { λ message_type form. form ≡ Spec.form_of message_type };
+
+    #[tactic(auto, using(octets::proofs::RangeLaws::arms), unfolding(crate::specs::Splitting::form_of))]
+    fn from(message_type: u8) -> Form {
+        match message_type {
+            0 => Form::Short,
+            1 => Form::Unavailable,
+            2 => Form::Full,
+            3..=255 => Form::Extension,
+        }
     }
 }
 
-// The length that stands before the type octet, 0 where there is no room for one.
-fn tag_length(packet: &[u8]) -> u16
-    ensures { result ≡ Spec.tag_length packet.now }
+// The length that stands before the type octet, if there is room for one.
+#[tactic(auto, unfolding(crate::specs::Splitting::tag_length))]
+fn tag_length(packet: &[u8]) -> Option<u16>
+    ensures { unwrap_or result 0 ≡ Spec.tag_length packet.now }
 {
-    if packet.len() < 3 {
-        return 0;
+    let at = packet.len().checked_sub(3)?;
+    Some(octets::number16(packet, at))
+}
+
+// Where a tag starts whose length is that of 1 to most octets and its trailer, within the packet.
+#[tactic(auto, unfolding(crate::specs::Splitting::length_fits, octets::specs::Range::within))]
+fn tag_start(packet: &[u8], trailer: u16, most: u16) -> Result<usize, Refusal>
+    ensures start { result ≡ Spec.tag_start packet.now trailer most }
+    ensures trailer { OnOk result (trailer ≤ length packet.now) }
+{
+    let n = tag_length(packet).ok_or(Refusal::NoTag)? as usize;
+    if (trailer as usize + 1 <= n) & (n <= trailer as usize + most as usize) & (n <= packet.len()) {
+        Ok(packet.len() - n)
+    } else {
+        Err(Refusal::NoTag)
     }
-    octets::number16(packet, packet.len() - 3)
 }
 
-// Whether the length is one of a tag with 1 to most octets before its trailer, within the packet.
-fn length_fits(packet: &[u8], trailer: u16, most: u16) -> bool
-    ensures { result ≡ Spec.length_fits packet.now trailer most }
-{
-    let n = tag_length(packet) as usize;
-    (trailer as usize + 1 <= n) & (n <= trailer as usize + most as usize) & (n <= packet.len())
-}
-
-fn split_full(packet: &[u8]) -> Tag
+#[tactic(auto, unfolding(crate::specs::Splitting::split_full))]
+fn split_full(packet: &[u8]) -> Result<Tag, Refusal>
     ensures { Spec.answer_of result ≡ Spec.split_full packet.now }
 {
-    if length_fits(packet, FULL_TRAILER, CIPHERTEXT_LIMIT) {
-        let end = packet.len() - FULL_TRAILER as usize;
-        Tag::Full {
-            spi: octets::number16(packet, end),
-            epoch: octets::number16(packet, end + 2),
-            start: packet.len() - tag_length(packet) as usize,
-            end,
-        }
-    } else {
-        Tag::NoTag
-    }
+    let start = tag_start(packet, FULL_TRAILER, CIPHERTEXT_LIMIT)?;
+    let end = packet.len() - FULL_TRAILER as usize;
+    Ok(Tag::Full {
+        spi: octets::number16(packet, end),
+        epoch: octets::number16(packet, end + 2),
+        start,
+        end,
+    })
 }
 
-fn split_extension(packet: &[u8], message_type: u8) -> Tag
+#[tactic(auto, unfolding(crate::specs::Splitting::split_extension))]
+fn split_extension(packet: &[u8], message_type: u8) -> Result<Tag, Refusal>
     ensures { Spec.answer_of result ≡ Spec.split_extension packet.now message_type }
 {
-    if length_fits(packet, EXTENSION_TRAILER, DATA_LIMIT) {
-        Tag::Extension {
-            message_type,
-            start: packet.len() - tag_length(packet) as usize,
-            end: packet.len() - EXTENSION_TRAILER as usize,
-        }
-    } else {
-        Tag::NoTag
-    }
+    let start = tag_start(packet, EXTENSION_TRAILER, DATA_LIMIT)?;
+    let end = packet.len() - EXTENSION_TRAILER as usize;
+    Ok(Tag::Extension {
+        message_type,
+        start,
+        end,
+    })
 }
 
 // The tag that ends a packet, or refusal 18.
-pub fn split(packet: &[u8]) -> Tag
+#[tactic(auto, unfolding(crate::specs::Splitting::splitting))]
+pub fn split(packet: &[u8]) -> Result<Tag, Refusal>
     ensures { Spec.answer_of result ≡ Spec.splitting packet.now }
 {
-    if packet.len() == 0 {
-        return Tag::NoTag;
-    }
-    let last = packet.len() - 1;
-    let message_type = octets::octet(packet, last);
-    match form_of(message_type) {
-        Form::Short => Tag::Short { start: last },
+    let message_type = *packet.last().ok_or(Refusal::NoTag)?;
+    match Form::from(message_type) {
+        Form::Short => Ok(Tag::Short {
+            start: packet.len() - 1,
+        }),
         Form::Full => split_full(packet),
         Form::Extension => split_extension(packet, message_type),
-        Form::Unavailable => Tag::NoTag,
+        Form::Unavailable => Err(Refusal::NoTag),
     }
 }

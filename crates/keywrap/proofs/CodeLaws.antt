@@ -1,90 +1,54 @@
 -- What the code reads and writes, octet by octet.
 use Prim.Native.Nat.{ℕ, zero, suc, ◌+◌, ◌*◌, ◌-◌, ◌/◌, ◌%◌, ◌^◌, ◌<◌, ◌≤◌}
 use mathlib.Core.Path.{◌≡◌, refl, sym, ap, ap₂, ◌∙◌}
-use mathlib.Core.Bool.{Bool, true, false, cond, ◌&&◌, and-true}
+use mathlib.Core.Bool.{Bool, true, false, ◌&&◌, and-true}
 use mathlib.Core.List.{List, [], ◌∷◌, ◌++◌, append_assoc, append-nil}
 use native.Mathlib.Omega.{arith}
 use native.Mathlib.Nat.{le_of_eq, zero-mul, one-mul}
 use native.Mathlib.Numerals.{add-one}
 use mir.Syntax.{w8}
 use mir.Val.{Fits, bool_byte}
-use borrow.Author.Tests.{ltb-true, ltb-false, leb-true, leb-false, eqb-true, eqb-false, ne_eqb}
+use borrow.Author.Tests.{leb-true, leb-false, eqb-true, eqb-false, ne_eqb}
 use lib.Bits.{bit_xor, bit_or, xor_self, or_add_and, and_le_r, or_zero_r}
-use lib.Dec.{eqb, ltb, leb}
-use lib.ListN.{length, get_or, set, take, drop, replicate, length-append, length-drop, take-append-drop, get_or-append, drop_of_length-le}
-use lib.Seq.{length-take-le, drop-drop, get_or-take, get_or-drop, get_or-append-add, take-append-add, drop-append-add, take_all, take-suc, drop-append-le}
+use lib.Dec.{eqb, leb}
+use lib.ListN.{length, get_or, set, take, drop, replicate, length-append, length-drop, take-append-drop, drop_of_length-le}
+use lib.Seq.{length-take-le, drop-drop, take-append-add, drop-append-add, take_all, take-suc, drop-append-le}
+use borrow.Rule.Slice.PartMut.{put_mid}
+use Rattle.std.proofs.lemmas.List.{take_at, drop_at, drop-replicate}
 use Rattle.aes.specs.Field.{xor}
 use Rattle.aes.proofs.Xor.{sum_zero, sum_twice}
-use Rattle.octets.specs.Write.{over}
-use Rattle.keywrap.specs.Inner.{offset_of, masked}
-use Rattle.keywrap.specs.KeyWrap.{register_count, block, register_at, replaced, xor_lists, octets64, xor_count, unwrap_step, unwrap_steps}
+use Rattle.keywrap.specs.Inner.{masked}
+use Rattle.keywrap.specs.KeyWrap.{register_count, block, register_at, replaced, xor_lists, octets64, xor_count, step, wrap_step, wrap_steps, unwrap_step, unwrap_steps}
 use Rattle.keywrap.specs.Limits.{plaintext_most, ciphertext_most}
 use Rattle.keywrap.specs.Padding.{aiv, padding, initial_registers, zeros, constant_right}
 use Rattle.keywrap.proofs.StepLaws.{register_first, register_last}
 
--- ---- A | R[i]
+-- ---- A | R[i], put together from its halves
 
-module _ (x : List ℕ) (i : ℕ) (first : 1 ≤ i) (last : 8 * i + 8 ≤ length x) where
-  a_long : length (take 8 x) ≡ 8
-  a_long = length-take-le 8 x (omega arith)
-
-  pub block_long : length (block i x) ≡ 16
-  unfolding block
-  block_long =
-      length-append (take 8 x) (take 8 (drop (8 * i) x))
-      ∙ (let a : length (take 8 x) ≡ 8 = a_long in
-      let d : length (drop (8 * i) x) ≡ length x - 8 * i = length-drop (8 * i) x in
-      let r : length (take 8 (drop (8 * i) x)) ≡ 8 = length-take-le 8 (drop (8 * i) x) (omega arith) in
-      omega arith)
-
-  pub block_at : (k : ℕ) → k < 16 → get_or x (offset_of i k) 0 ≡ get_or (block i x) k 0
-  unfolding block offset_of
-  block_at k h = go (ltb k 8) refl
-    where
-      go : (b : Bool) → ltb k 8 ≡ b → get_or x (cond b k (8 * i + k - 8)) 0 ≡ get_or (take 8 x ++ take 8 (drop (8 * i) x)) k 0
-      go true e =
-          let l : k < 8 = ltb-true k 8 e in
-          let a : length (take 8 x) ≡ 8 = a_long in
-          sym (get_or-append (take 8 x) (take 8 (drop (8 * i) x)) 0 k (omega arith) ∙ get_or-take 8 x k 0 l)
-      go false e =
-          let g : 8 ≤ k = ltb-false k 8 e in
-          let a : length (take 8 x) ≡ 8 = a_long in
-          let n : length (take 8 x) + (k - 8) ≡ k = omega arith in
-          let p : 8 * i + (k - 8) ≡ 8 * i + k - 8 = omega arith in
-          sym (ap (λ (j : ℕ). get_or (take 8 x ++ take 8 (drop (8 * i) x)) j 0) (sym n)
-          ∙ get_or-append-add (take 8 x) (take 8 (drop (8 * i) x)) (k - 8) 0
-          ∙ get_or-take 8 (drop (8 * i) x) (k - 8) 0 (omega arith) ∙ get_or-drop (8 * i) x (k - 8) 0
-          ∙ ap (λ (j : ℕ). get_or x j 0) p)
+pub both_halves : (p q l : List ℕ) → length p ≡ 8 → length q ≡ 8 → length l ≡ 8 → put_mid 8 8 (p ++ l) q ≡ p ++ q
+both_halves p q l hp hq hl =
+    rw (take_at p l 8 hp, drop_at p l 8 hp) (ap (λ (y : List ℕ). p ++ (q ++ y)) (drop_of_length-le l {i = 8} (omega arith)) ∙ ap (λ (y : List ℕ). p ++ y) (append-nil q))
 
 -- ---- both halves of a block written over A and R[i]
 
-regroup : (p t q s : List ℕ) → p ++ t ++ q ++ s ≡ p ++ (t ++ (q ++ s))
-regroup p t q s = append_assoc (p ++ t) q s ∙ append_assoc p t (q ++ s)
-
-pub put_parts : (p q x : List ℕ) (i : ℕ) → length p ≡ 8 → length q ≡ 8 → 1 ≤ i
-    → over (over x 0 p) (8 * i) q ≡ p ++ (take (8 * (i - 1)) (drop 8 x) ++ (q ++ drop (8 * i + 8) x))
-put_parts p q x i hp hq one =
-    let z : 0 + length p ≡ 8 = omega arith in
+put_parts : (p q x : List ℕ) (i : ℕ) → length p ≡ 8 → 1 ≤ i
+    → put_mid (8 * i) 8 (p ++ drop 8 x) q ≡ p ++ (take (8 * (i - 1)) (drop 8 x) ++ (q ++ drop (8 * i + 8) x))
+put_parts p q x i hp one =
     let v : 8 * i ≡ length p + 8 * (i - 1) = omega arith in
-    let u : 8 * i + length q ≡ length p + 8 * i = omega arith in
-    let t : 8 + 8 * i ≡ 8 * i + 8 = omega arith in
-    rw z
-    (ap₂ (λ (a b : List ℕ). a ++ q ++ b)
-    (ap (λ (k : ℕ). take k (p ++ drop 8 x)) v ∙ take-append-add p (drop 8 x) (8 * (i - 1)))
-    (ap (λ (k : ℕ). drop k (p ++ drop 8 x)) u ∙ drop-append-add p (drop 8 x) (8 * i) ∙ drop-drop (8 * i) 8 x ∙ ap (λ (k : ℕ). drop k x) t)
-    ∙ regroup p (take (8 * (i - 1)) (drop 8 x)) q (drop (8 * i + 8) x))
+    let u : 8 + (8 * (i - 1) + 8) ≡ 8 * i + 8 = omega arith in
+    rw (
+      v,
+      take-append-add p (drop 8 x) (8 * (i - 1)),
+      drop-append-add p (drop 8 x) (8 * (i - 1)),
+      drop-drop 8 (8 * (i - 1)) (drop 8 x),
+      drop-drop (8 * (i - 1) + 8) 8 x,
+      u,
+      ← v,
+    ) (append_assoc p (take (8 * (i - 1)) (drop 8 x)) (q ++ drop (8 * i + 8) x))
 
-pub put_both : (b x : List ℕ) (i : ℕ) → length b ≡ 16 → 1 ≤ i → over (over x 0 (take 8 b)) (8 * i) (drop 8 b) ≡ replaced i b x
+pub put_both : (b x : List ℕ) (i : ℕ) → length b ≡ 16 → 1 ≤ i → put_mid (8 * i) 8 (take 8 b ++ drop 8 x) (drop 8 b) ≡ replaced i b x
 unfolding replaced
-put_both b x i l one = put_parts (take 8 b) (drop 8 b) x i (length-take-le 8 b (omega arith)) (length-drop 8 b ∙ omega arith) one
-
-pub place_lt : (i k n : ℕ) → 1 ≤ i → k < 16 → 8 * i + 8 ≤ n → offset_of i k < n
-unfolding offset_of
-place_lt i k n one h l = go (ltb k 8) refl
-  where
-    go : (b : Bool) → ltb k 8 ≡ b → cond b k (8 * i + k - 8) < n
-    go true e = let g : k < 8 = ltb-true k 8 e in omega arith
-    go false e = let g : 8 ≤ k = ltb-false k 8 e in omega arith
+put_both b x i l one = put_parts (take 8 b) (drop 8 b) x i (length-take-le 8 b (omega arith)) one
 
 lists_none : (l : List ℕ) → xor_lists l [] ≡ l
 unfolding xor_lists
@@ -116,7 +80,7 @@ count_last t (a ∷ b ∷ c ∷ d ∷ e ∷ f ∷ g ∷ i ∷ s) h l =
 
 -- ---- the frame
 
-pub aiv_short : (m : ℕ) → m ≤ plaintext_most → 0xa6 ∷ 0x59 ∷ 0x59 ∷ 0xa6 ∷ 0 ∷ 0 ∷ 0 ∷ m ∷ [] ≡ aiv m
+aiv_short : (m : ℕ) → m ≤ plaintext_most → 0xa6 ∷ 0x59 ∷ 0x59 ∷ 0xa6 ∷ 0 ∷ 0 ∷ 0 ∷ m ∷ [] ≡ aiv m
 unfolding aiv
 aiv_short m h =
     let z3 : m / 16777216 ≡ 0 = omega arith in
@@ -125,39 +89,40 @@ aiv_short m h =
     let z0 : m % 256 ≡ m = omega arith in
     rw (z3, z2, z1, z0) refl
 
-aiv_long : (m : ℕ) → length (aiv m) ≡ 8
-unfolding aiv
-aiv_long m = refl
-
 pub zero_at : (n k : ℕ) → get_or {A = ℕ} (replicate n 0) k 0 ≡ 0
 zero_at zero k = refl
 zero_at (suc n) zero = refl
 zero_at (suc n) (suc k) = zero_at n k
 
-module _ (p : List ℕ) (i : ℕ) where
-  pub head_at : length p ≤ plaintext_most → i < 8 → get_or (0xa6 ∷ 0x59 ∷ 0x59 ∷ 0xa6 ∷ 0 ∷ 0 ∷ 0 ∷ length p ∷ []) i 0 ≡ get_or (initial_registers p) i 0
-  unfolding initial_registers
-  head_at f h =
-      ap (λ (l : List ℕ). get_or l i 0) (aiv_short (length p) f)
-      ∙ sym (get_or-append (aiv (length p)) (p ++ replicate (padding (length p)) 0) 0 i (rw (aiv_long (length p)) h))
+pub last_cleared : (x q : List ℕ) → 8 ≤ length x → q ≡ replicate 8 0 → put_mid (length x - 8) (length x - (length x - 8)) x q ≡ take (length x - 8) x ++ replicate 8 0
+last_cleared x q h e =
+    let n = length x in
+    let a : length (drop (n - 8) x) ≤ n - (n - 8) = omega (arith, length-drop (n - 8) x) in
+    ap (λ (y : List ℕ). take (n - 8) x ++ (q ++ y)) (drop_of_length-le (drop (n - 8) x) a)
+    ∙ ap (λ (y : List ℕ). take (n - 8) x ++ y) (append-nil q ∙ e)
 
-  tail_at : 8 ≤ i → get_or (initial_registers p) i 0 ≡ get_or (p ++ replicate (padding (length p)) 0) (i - 8) 0
-  unfolding initial_registers
-  tail_at h =
-      let l : length (aiv (length p)) ≡ 8 = aiv_long (length p) in
-      let n : length (aiv (length p)) + (i - 8) ≡ i = omega arith in
-      ap (λ (j : ℕ). get_or (aiv (length p) ++ (p ++ replicate (padding (length p)) 0)) j 0) (sym n)
-      ∙ get_or-append-add (aiv (length p)) (p ++ replicate (padding (length p)) 0) (i - 8) 0
+pub last_long : (x q : List ℕ) → 8 ≤ length x → q ≡ replicate 8 0 → length (put_mid (length x - 8) (length x - (length x - 8)) x q) ≡ length x
+last_long x q h e =
+    let a = length-append (take (length x - 8) x) (replicate {A = ℕ} 8 0) in
+    let b = length-take-le (length x - 8) x (omega arith) in
+    let c : length (put_mid (length x - 8) (length x - (length x - 8)) x q) ≡ length (take (length x - 8) x ++ replicate {A = ℕ} 8 0) = ap length (last_cleared x q h e) in
+    let d : length (replicate {A = ℕ} 8 0) ≡ 8 = refl in
+    omega (arith, a, b, c, d)
 
-  pub plaintext_at : 8 ≤ i → i - 8 < length p → get_or p (i - 8) 0 ≡ get_or (initial_registers p) i 0
-  plaintext_at h l = sym (tail_at h ∙ get_or-append p (replicate (padding (length p)) 0) 0 (i - 8) l)
-
-  pub behind_at : 8 ≤ i → length p ≤ i - 8 → ◌≡◌ {A = ℕ} 0 (get_or (initial_registers p) i 0)
-  behind_at h l =
-      let n : length p + (i - 8 - length p) ≡ i - 8 = omega arith in
-      sym (tail_at h ∙ ap (λ (j : ℕ). get_or (p ++ replicate (padding (length p)) 0) j 0) (sym n)
-      ∙ get_or-append-add p (replicate (padding (length p)) 0) (i - 8 - length p) 0
-      ∙ zero_at (padding (length p)) (i - 8 - length p))
+pub put_frame : (p x : List ℕ) (n : ℕ) → length p ≤ plaintext_most → n ≡ length x → n ≡ 8 + (length p + padding (length p)) → padding (length p) < 8
+    → put_mid 8 (length p) ((0xa6 ∷ 0x59 ∷ 0x59 ∷ 0xa6 ∷ 0 ∷ 0 ∷ 0 ∷ length p ∷ []) ++ drop 8 (take (n - 8) x ++ replicate 8 0)) p ≡ initial_registers p
+unfolding initial_registers
+put_frame p x n h l e f =
+    let front : List ℕ = take (n - 8) x in
+    let k : length front ≡ n - 8 = length-take-le (n - 8) x (omega arith) in
+    let d : 8 + length p ≡ length front + (8 - padding (length p)) = omega arith in
+    let b : 8 - (8 - padding (length p)) ≡ padding (length p) = omega arith in
+    let z : drop (length p) (drop 8 (front ++ replicate {A = ℕ} 8 0)) ≡ replicate (padding (length p)) 0 =
+    drop-drop (length p) 8 (front ++ replicate {A = ℕ} 8 0) ∙ ap (λ (j : ℕ). drop j (front ++ replicate {A = ℕ} 8 0)) d
+    ∙ drop-append-add front (replicate {A = ℕ} 8 0) (8 - padding (length p)) ∙ drop-replicate {X = ℕ} (8 - padding (length p)) 8 0
+    ∙ ap (λ (j : ℕ). replicate {A = ℕ} j 0) b in
+    ap (λ (y : List ℕ). (0xa6 ∷ 0x59 ∷ 0x59 ∷ 0xa6 ∷ 0 ∷ 0 ∷ 0 ∷ length p ∷ []) ++ (p ++ y)) z
+    ∙ ap (λ (a : List ℕ). a ++ (p ++ replicate (padding (length p)) 0)) (aiv_short (length p) h)
 
 -- ---- the register of a step is there
 
@@ -168,15 +133,18 @@ in_reach r t x e l m =
     let b = register_last t x l in
     (omega arith, omega arith, omega arith)
 
--- ---- half a block
+-- ---- a step through a function of which one value is known
 
-pub half_at : (b : List ℕ) (from k : ℕ) → k < 8 → get_or b (from + k) 0 ≡ get_or (take 8 (drop from b)) k 0
-half_at b from k h = sym (get_or-take 8 (drop from b) k 0 h ∙ get_or-drop from b k 0)
+pub stepped : (t : ℕ) (f : List ℕ → List ℕ) (x y b : List ℕ) → b ≡ f (block (register_at (register_count x) t) x) → y ≡ step t (λ _. b) x → y ≡ step t f x
+unfolding step
+stepped t f x y b e s = s ∙ ap (λ (v : List ℕ). replaced (register_at (register_count x) t) v x) e
 
-pub half_long : (b : List ℕ) (from : ℕ) → length b ≡ 16 → from ≤ 8 → length (take 8 (drop from b)) ≡ 8
-half_long b from l h = length-take-le 8 (drop from b) (let d : length (drop from b) ≡ length b - from = length-drop from b in omega arith)
+-- ---- a step more, and a step less
 
--- ---- steps back
+pub wrap_more : (w : List ℕ) (t : ℕ) (x : List ℕ) → 1 ≤ t → wrap_step w t (wrap_steps w (t - 1) x) ≡ wrap_steps w t x
+unfolding wrap_steps
+wrap_more w zero x h = absurd (omega arith)
+wrap_more w (suc t) x h = let e : suc t - 1 ≡ t = omega arith in rw e
 
 pub unwrap_less : (w : List ℕ) (t : ℕ) (x : List ℕ) → 0 < t → unwrap_steps w t x ≡ unwrap_steps w (t - 1) (unwrap_step w t x)
 unfolding unwrap_steps
@@ -199,18 +167,11 @@ one_replaced b x l =
 
 -- ---- all of a slice, and what is left of one
 
-pub over_whole : (l q : List ℕ) → length q ≡ length l → over l 0 q ≡ q
-over_whole l q h =
-    ap (λ (y : List ℕ). q ++ y) (drop_of_length-le l {i = 0 + length q} (omega arith)) ∙ append-nil q
-
 pub tail : (x : List ℕ) (k : ℕ) → take (length x - k) (drop k x) ≡ drop k x
 tail x k = take_all (length x - k) (drop k x) (le_of_eq (length-drop k x))
 
 pub second_half : (b : List ℕ) → length b ≡ 16 → take 8 (drop 8 b) ≡ drop 8 b
 second_half b l = take_all 8 (drop 8 b) (let d : length (drop 8 b) ≡ length b - 8 = length-drop 8 b in omega arith)
-
-pub over_front : (l q : List ℕ) (m : ℕ) → length q ≡ m → over l 0 q ≡ q ++ drop m l
-over_front l q m e = let z : 0 + length q ≡ m = omega arith in ap (λ (k : ℕ). q ++ drop k l) z
 
 -- an array of which the front was lent has its length still
 pub relent : (p l : List ℕ) (n : ℕ) → length p ≡ n → n ≤ length l → length l ≡ length (p ++ drop n l)

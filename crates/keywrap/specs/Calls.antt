@@ -1,10 +1,10 @@
 -- What wrapping and unwrapping answer, and what they leave in the output: document 02, order 4.
-use Rattle.std.specs.Prelude.{ℕ, ◌≡◌, cond, not, List, ◌++◌, eqb, ltb, length, drop}
+use Rattle.std.specs.Prelude.{ℕ, ◌≡◌, cond, not, List, ◌++◌, eqb, ltb, length, drop, Result, Ok, Err}
+use Rattle.octets.specs.declared.refusal.Refusal.{Refusal}
+use Rattle.octets.specs.Refusal.{number_of}
 use Rattle.octets.specs.Range.{within}
 use Rattle.keywrap.specs.Limits.{key_length, plaintext_most}
 use Rattle.keywrap.specs.Padding as Padding
-use Rattle.keywrap.specs.declared.wrapping.Wrapped.{Wrapped}
-use Rattle.keywrap.specs.declared.unwrapping.Unwrapped.{Unwrapped}
 
 -- a refusal by its number, or the number of octets written
 pub data Answer : Type 0 where
@@ -38,15 +38,7 @@ output_after (written count) octets before = octets ++ drop (length octets) befo
 abbrev pub Writes : (expected : Answer) (octets before after : List ℕ) (answer : Answer) → Type 0
 Writes expected octets before after answer = (answer ≡ expected) × (after ≡ output_after expected octets before)
 
--- the number and the count that each case of the enums stands for
-abbrev pub wrapped_answer : Wrapped → Answer
-wrapped_answer Wrapped.KeyLength = refused 34
-wrapped_answer Wrapped.PlaintextLength = refused 33
-wrapped_answer Wrapped.NoRoom = refused 13
-wrapped_answer (Wrapped.Written count) = written count
-
-abbrev pub unwrapped_answer : Unwrapped → Answer
-unwrapped_answer Unwrapped.KeyLength = refused 34
-unwrapped_answer Unwrapped.BadCiphertext = refused 22
-unwrapped_answer Unwrapped.NoRoom = refused 13
-unwrapped_answer (Unwrapped.Written count) = written count
+-- what a result stands for: a refusal by its number, or the number of octets written
+abbrev pub answer_of : Result ℕ Refusal → Answer
+answer_of (Err refusal) = refused (number_of refusal)
+answer_of (Ok count) = written count

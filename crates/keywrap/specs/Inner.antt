@@ -1,11 +1,12 @@
 -- What inner functions of the code compute, and the two calls that are for `vectors` alone: no part of the RFCs or of document 02.
-use Rattle.std.specs.Prelude.{ℕ, ◌+◌, ◌*◌, ◌-◌, Bool, cond, not, List, ltb, length}
+use Rattle.std.specs.Prelude.{ℕ, Bool, cond, not, List, length, ◌≤◌}
+use Rattle.keywrap.specs.Limits.{ciphertext_most}
 use Rattle.keywrap.specs.Padding.{length_fits, verified, plaintext_in}
 use Rattle.keywrap.specs.Calls.{Answer, refused, fitting}
 
--- where octet k of A | R[i] stands in the registers
-unfoldable pub offset_of : (i k : ℕ) → ℕ
-offset_of i k = cond (ltb k 8) k (8 * i + k - 8)
+-- A and 1 to 30 registers R: what the steps ask of their registers
+abbrev pub RegistersFit : List ℕ → Type 0
+RegistersFit x = (16 ≤ length x) × (length x ≤ ciphertext_most)
 
 -- the octet where it counts, else 0
 unfoldable pub masked : (kept : Bool) (a : ℕ) → ℕ

@@ -1,12 +1,13 @@
 // The checks of unwrapping.
 ghost use Rattle.std.specs.Prelude.{◌≡◌, ◌+◌, ◌*◌, ◌≤◌, ◌&&◌, eqb, length, drop};
 ghost use Rattle.keywrap.specs.Inner as Inner;
-ghost use Rattle.keywrap.specs.Limits.{ciphertext_most};
+ghost use Rattle.keywrap.specs.Inner.{RegistersFit};
 ghost use Rattle.keywrap.specs.Padding as Spec;
 
 use crate::limits::CIPHERTEXT;
 
 // Whether a ciphertext may have that length.
+#[tactic(auto, unfolding(crate::specs::Padding::length_fits))]
 pub(crate) fn length_fits(n: usize) -> bool
     ensures { result ≡ Spec.length_fits n }
 {
@@ -14,6 +15,7 @@ pub(crate) fn length_fits(n: usize) -> bool
 }
 
 // 0 where the constant of the AIV is there: its octets, each xored with what it should be.
+#[tactic(auto, using(crate::proofs::CodeLaws::mark_none))]
 fn constant_fault(x: &[u8]) -> u8
     requires { 16 ≤ length x.now }
     ensures { eqb result 0 ≡ Spec.constant_right x.now }
@@ -22,6 +24,7 @@ fn constant_fault(x: &[u8]) -> u8
 }
 
 // 0 where all is well, else 1.
+#[tactic(auto, using(crate::proofs::CodeLaws::fault_none, crate::proofs::CodeLaws::fault_fits))]
 fn fault(well: bool) -> u8
     ensures { eqb result 0 ≡ well }
 {
@@ -29,12 +32,14 @@ fn fault(well: bool) -> u8
 }
 
 // The message length indicator.
+#[tactic(auto, unfolding(crate::specs::Padding::mli))]
 pub(crate) fn mli(x: &[u8]) -> usize
     ensures { result ≡ Spec.mli x.now }
 {
     octets::number32(x, 4) as usize
 }
 
+#[tactic(auto, unfolding(crate::specs::Padding::mli_fits))]
 fn mli_fits(n: usize, m: usize) -> bool
     requires { (1 ≤ n) × (n ≤ 30) }
     ensures { result ≡ Spec.mli_fits n m }
@@ -43,6 +48,7 @@ fn mli_fits(n: usize, m: usize) -> bool
 }
 
 // The octet where it counts, else 0: no branch.
+#[tactic(auto, using(crate::proofs::CodeLaws::masked_product, crate::proofs::CodeLaws::masked_fits))]
 fn masked(kept: bool, a: u8) -> u8
     ensures { result ≡ Inner.masked kept a }
 {
@@ -50,15 +56,14 @@ fn masked(kept: bool, a: u8) -> u8
 }
 
 // No fault found before, and only octets 0 from an offset on. Every octet is read, wherever the offset is and whatever was
-// found: what was found goes through the loop, so that the compiler has one test to make, and makes it last.
+// found: what was found goes through the loop, so that the compiler has one test to make, and makes it last. Not by `all` or `any`,
+// which end at the first fault.
 fn zeros_from(x: &[u8], from: usize, found: u8) -> bool
     ensures { result ≡ (eqb found 0 && Spec.zeros (drop from x.now)) }
 {
     let mut bad = found;
-    let mut i = 0;
-    while i < x.len() {
-        bad = bad | masked(from <= i, x[i]);
-        i += 1;
+    for (i, a) in x.iter().enumerate() {
+        bad = bad | masked(from <= i, *a);
     }
     bad == 0
 }
@@ -67,7 +72,7 @@ fn zeros_from(x: &[u8], from: usize, found: u8) -> bool
 // and none on what it was worked out from.
 #[inline(never)]
 pub(crate) fn verified(x: &[u8]) -> bool
-    requires { (16 ≤ length x.now) × (length x.now ≤ ciphertext_most) }
+    requires { RegistersFit x.now }
     ensures { result ≡ Spec.verified x.now }
 {
     let m = mli(x);

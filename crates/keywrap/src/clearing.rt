@@ -1,7 +1,7 @@
 // What held a secret is overwritten. A compiler leaves stores out that nothing reads. So each function here reads again
 // one of the octets that it stored, at an offset that only the running program knows, and its caller goes by what was read.
+ghost use Rattle.keywrap.specs.Inner.{RegistersFit};
 ghost use Rattle.std.specs.Prelude.{◌≡◌, ◌≤◌, length, replicate};
-ghost use Rattle.keywrap.specs.Limits.{ciphertext_most};
 
 use crate::limits::KEY;
 use crate::loading::load_schedule;
@@ -11,11 +11,7 @@ use crate::process::{unwrap_steps, wrap_steps};
 pub(crate) fn clear(x: &mut [u8], at: usize) -> u8
     ensures { (result ≡ 0) × (x.new ≡ replicate (length x.old) 0) }
 {
-    let mut i = 0;
-    while i < x.len() {
-        x[i] = 0;
-        i += 1;
-    }
+    x.fill(0);
     octets::octet(x, at)
 }
 
@@ -25,14 +21,14 @@ pub(crate) fn clear(x: &mut [u8], at: usize) -> u8
 // that both times these stand at the same place on the stack.
 #[inline(always)]
 pub(crate) fn forget(w: &mut [u8; 176], x: &mut [u8], at: usize) -> u8
-    requires { (16 ≤ length x.old) × (length x.old ≤ ciphertext_most) }
+    requires { RegistersFit x.old }
     ensures { (result ≡ 0) × (w.new ≡ replicate (length w.old) 0) × (x.new ≡ replicate (length x.old) 0) }
 {
     let left = clear(w, at % 128) | clear(x, at % 16);
     let key = [0; KEY];
     let mut zero = [0; 176];
     load_schedule(&key, &mut zero);
-    let steps = 1 + at % 256 / 128;
+    let steps = 1 + (at % 256 / 128) as u8;
     wrap_steps(&zero, steps, x);
     unwrap_steps(&zero, steps, x);
     left | octets::octet(x, at % 16)

@@ -8,6 +8,7 @@ use crate::checks::length_fits;
 use crate::process::{unwrap_registers, wrap_registers};
 
 // RFC 5649, 4.1, step 2, with the key schedule w.
+#[tactic(auto, using(crate::proofs::PaddingLaws::fitting_multiple, crate::proofs::PaddingLaws::fitting_least, crate::proofs::PaddingLaws::fitting_most))]
 pub fn wrap_in_place(w: &[u8; 176], x: &mut [u8]) -> bool
     ensures { (result ≡ Spec.length_fits (length x.old)) × (x.new ≡ in_place (Spec.wrap_registers w.now) x.old) }
 {
@@ -18,7 +19,9 @@ pub fn wrap_in_place(w: &[u8; 176], x: &mut [u8]) -> bool
     fits
 }
 
-// RFC 5649, 4.2, step 1. Nothing is verified: `unwrap` is the call that does.
+// RFC 5649, 4.2, step 1. Nothing is verified: `unwrap` is the call that does. Not one function with `wrap_in_place`, over a
+// closure that lends the registers on: no shorter.
+#[tactic(auto, using(crate::proofs::PaddingLaws::fitting_multiple, crate::proofs::PaddingLaws::fitting_least, crate::proofs::PaddingLaws::fitting_most))]
 pub fn unwrap_in_place(w: &[u8; 176], x: &mut [u8]) -> bool
     ensures { (result ≡ Spec.length_fits (length x.old)) × (x.new ≡ in_place (Spec.unwrap_registers w.now) x.old) }
 {

@@ -13,5 +13,5 @@ mod unwrapping;
 mod wrapping;
 
 pub use in_place::{unwrap_in_place, wrap_in_place};
-pub use unwrapping::{Unwrapped, unwrap};
-pub use wrapping::{Wrapped, wrap};
+pub use unwrapping::unwrap;
+pub use wrapping::wrap;

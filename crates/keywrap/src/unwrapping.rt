@@ -1,42 +1,35 @@
 // Unwrapping: a ciphertext becomes the plaintext at the front of the output, if some plaintext wraps to it.
 ghost use Rattle.std.specs.Prelude.{◌≡◌, true, ◌%◌, ◌≤◌, length};
-ghost use Rattle.keywrap.specs.Calls.{unwrapping, Writes, unwrapped_answer};
+ghost use Rattle.keywrap.specs.Calls.{unwrapping, Writes, answer_of};
 ghost use Rattle.keywrap.specs.Claims.{Unwraps};
-ghost use Rattle.keywrap.specs.Inner.{taking};
-ghost use Rattle.keywrap.specs.Limits.{ciphertext_most};
+ghost use Rattle.keywrap.specs.Inner.{taking, RegistersFit};
 ghost use Rattle.keywrap.specs.Padding as Spec;
 
 use crate::checks::{length_fits, mli, verified};
 use crate::clearing::forget;
-use crate::limits::{CIPHERTEXT, KEY};
+use crate::limits::CIPHERTEXT;
 use crate::loading::load_schedule;
 use crate::process::unwrap_registers;
-
-#[derive(Clone, Copy)]
-pub enum Unwrapped {
-    KeyLength,
-    BadCiphertext,
-    NoRoom,
-    Written { count: usize },
-}
+use octets::Refusal;
 
 // Refusals 34; 22; 13. Beside the equation the contract says when some plaintext wraps to the ciphertext, and which.
-pub fn unwrap(key: &[u8], ciphertext: &[u8], out: &mut [u8]) -> Unwrapped
-    ensures { Writes (unwrapping key.now ciphertext.now (length out.old)) (Spec.unwrap key.now ciphertext.now) out.old out.new (unwrapped_answer result) × Unwraps key.now ciphertext.now out.old out.new (unwrapped_answer result) }
+pub fn unwrap(key: &[u8], ciphertext: &[u8], out: &mut [u8]) -> Result<usize, Refusal>
+    ensures { Writes (unwrapping key.now ciphertext.now (length out.old)) (Spec.unwrap key.now ciphertext.now) out.old out.new (answer_of result) × Unwraps key.now ciphertext.now out.old out.new (answer_of result) }
 {
     octets::holds_octets(key);
     octets::holds_octets(ciphertext);
     unwrap_lent(key, ciphertext, out)
 }
 
-fn unwrap_lent(key: &[u8], c: &[u8], out: &mut [u8]) -> Unwrapped
-    ensures { Writes (unwrapping key.now c.now (length out.old)) (Spec.unwrap key.now c.now) out.old out.new (unwrapped_answer result) }
+#[tactic(auto, using(crate::proofs::CallLaws::settled, crate::proofs::CallLaws::when_other_length, crate::proofs::CallLaws::not_fitting, crate::proofs::PaddingLaws::fitting_most))]
+fn unwrap_lent(key: &[u8], c: &[u8], out: &mut [u8]) -> Result<usize, Refusal>
+    ensures { Writes (unwrapping key.now c.now (length out.old)) (Spec.unwrap key.now c.now) out.old out.new (answer_of result) }
 {
-    if key.len() != KEY {
-        return Unwrapped::KeyLength;
-    }
+    let Some(key) = key.as_array() else {
+        return Err(Refusal::EktKeyOrSaltLength);
+    };
     if !length_fits(c.len()) {
-        return Unwrapped::BadCiphertext;
+        return Err(Refusal::BadCiphertext);
     }
     let n = c.len();
     let mut w = [0; 176];
@@ -47,38 +40,39 @@ fn unwrap_lent(key: &[u8], c: &[u8], out: &mut [u8]) -> Unwrapped
 }
 
 // With a key schedule, and registers to work in.
-fn unwrap_in(w: &[u8; 176], c: &[u8], x: &mut [u8], out: &mut [u8]) -> Unwrapped
+fn unwrap_in(w: &[u8; 176], c: &[u8], x: &mut [u8], out: &mut [u8]) -> Result<usize, Refusal>
     requires { (Spec.length_fits (length c.now) ≡ true) × (length x.old ≡ length c.now) }
-    ensures { Writes (taking (Spec.unwrap_registers w.now c.now) (length out.old)) (Spec.plaintext_in (Spec.unwrap_registers w.now c.now)) out.old out.new (unwrapped_answer result) }
+    ensures { Writes (taking (Spec.unwrap_registers w.now c.now) (length out.old)) (Spec.plaintext_in (Spec.unwrap_registers w.now c.now)) out.old out.new (answer_of result) }
 {
-    octets::put_octets(x, 0, c);
+    x.copy_from_slice(c);
     unwrap_registers(w, x);
     take_plaintext(x, out)
 }
 
 // What the registers hold, if they pass the checks.
-fn take_plaintext(x: &[u8], out: &mut [u8]) -> Unwrapped
-    requires { (length x.now % 8 ≡ 0) × (16 ≤ length x.now) × (length x.now ≤ ciphertext_most) }
-    ensures { Writes (taking x.now (length out.old)) (Spec.plaintext_in x.now) out.old out.new (unwrapped_answer result) }
+#[tactic(auto, using(crate::proofs::CallLaws::settled, crate::proofs::CallLaws::take_refused))]
+fn take_plaintext(x: &[u8], out: &mut [u8]) -> Result<usize, Refusal>
+    requires { (length x.now % 8 ≡ 0) × RegistersFit x.now }
+    ensures { Writes (taking x.now (length out.old)) (Spec.plaintext_in x.now) out.old out.new (answer_of result) }
 {
     if !verified(x) {
-        return Unwrapped::BadCiphertext;
+        return Err(Refusal::BadCiphertext);
     }
     let m = mli(x);
     if out.len() < m {
-        return Unwrapped::NoRoom;
+        return Err(Refusal::NoRoom);
     }
-    octets::put_octets(out, 0, &x[8..8 + m]);
-    Unwrapped::Written { count: m }
+    out[..m].copy_from_slice(&x[8..8 + m]);
+    Ok(m)
 }
 
 // The answer, once the clearing has given 0, which it always does and no compiler knows.
-fn cleared(answer: Unwrapped, left: u8) -> Unwrapped
+fn cleared(answer: Result<usize, Refusal>, left: u8) -> Result<usize, Refusal>
     requires { left ≡ 0 }
     ensures { result ≡ answer }
 {
     if 0 < left {
-        return Unwrapped::KeyLength;
+        return Err(Refusal::EktKeyOrSaltLength);
     }
     answer
 }

@@ -1,82 +1,60 @@
-// The pieces that lines are made of, written to a writer.
-use crate::words;
-use crate::words::say;
-use std::io;
-use std::io::Write;
+// How octets and answers are written in a line.
+ghost use Rattle.std.specs.Prelude.{Some};
+ghost use Rattle.lines.specs.Print.{yes_or_no};
+
+use std::fmt;
 
 // The longest part whose octets are written out; of a longer one a reader wants the length.
 const WRITTEN_OUT: usize = 64;
 
-pub fn text(to: &mut impl Write, s: &[u8]) -> io::Result<()> {
-    to.write_all(s)
-}
+// Octets in capitals, as the worked octets are written.
+#[derive(Clone, Copy)]
+pub struct Row<'a>(pub &'a [u8]);
 
-pub fn decimal(to: &mut impl Write, n: usize) -> io::Result<()> {
-    write!(to, "{n}")
-}
-
-// A number behind a word.
-pub fn count(to: &mut impl Write, name: usize, n: usize) -> io::Result<()> {
-    say(to, name)?;
-    decimal(to, n)
-}
-
-pub fn refusal(to: &mut impl Write, number: u8) -> io::Result<()> {
-    count(to, words::REFUSAL, number as usize)
-}
-
-// In capitals, as the worked octets are written.
-fn digit(n: u8) -> u8 {
-    octets::octet(b"0123456789ABCDEF", n as usize)
-}
-
-fn octet(to: &mut impl Write, x: u8) -> io::Result<()> {
-    text(to, &[digit(x / 16), digit(x % 16)])
-}
-
-fn two_octets(to: &mut impl Write, n: u16) -> io::Result<()> {
-    octet(to, (n / 256) as u8)?;
-    octet(to, (n % 256) as u8)
-}
-
-// A number of two octets behind a word.
-pub fn number16(to: &mut impl Write, name: usize, n: u16) -> io::Result<()> {
-    say(to, name)?;
-    two_octets(to, n)
-}
-
-pub fn octet_row(to: &mut impl Write, s: &[u8]) -> io::Result<()> {
-    for i in 0..s.len() {
-        if 0 < i {
-            say(to, words::SPACE)?;
+impl fmt::Display for Row<'_> {
+    fn fmt<W: fmt::Write>(&self, f: &mut fmt::Formatter<W>) -> fmt::Result {
+        let mut between = "";
+        for octet in self.0 {
+            write!(f, "{between}{octet:02X}")?;
+            between = " ";
         }
-        octet(to, s[i])?;
-    }
-    Ok(())
-}
-
-fn bracketed(to: &mut impl Write, s: &[u8]) -> io::Result<()> {
-    say(to, words::OPENED)?;
-    octet_row(to, s)?;
-    say(to, words::SHUT)
-}
-
-// A part behind a word.
-pub fn part(to: &mut impl Write, name: usize, s: &[u8]) -> io::Result<()> {
-    say(to, name)?;
-    if s.len() <= WRITTEN_OUT {
-        bracketed(to, s)
-    } else {
-        decimal(to, s.len())?;
-        say(to, words::OCTETS)
+        Ok(())
     }
 }
 
-// The end of a line.
-pub fn yes_or_no(to: &mut impl Write, answer: bool) -> io::Result<()> {
-    if answer {
-        say(to, words::YES)
-    } else {
-        say(to, words::NO)
+// A part: its octets in brackets, or its length.
+#[derive(Clone, Copy)]
+pub struct Part<'a>(pub &'a [u8]);
+
+impl fmt::Display for Part<'_> {
+    fn fmt<W: fmt::Write>(&self, f: &mut fmt::Formatter<W>) -> fmt::Result {
+        let length = self.0.len();
+        if length <= WRITTEN_OUT {
+            write!(f, "[{}]", Row(self.0))
+        } else {
+            write!(f, "{length} octets")
+        }
+    }
+}
+
+// A number of two octets.
+#[derive(Clone, Copy)]
+pub struct Number16(pub u16);
+
+impl fmt::Display for Number16 {
+    fn fmt<W: fmt::Write>(&self, f: &mut fmt::Formatter<W>) -> fmt::Result {
+        write!(f, "{:04X}", self.0)
+    }
+}
+
+// An answer of yes or no.
+#[derive(Clone, Copy)]
+pub struct YesOrNo(pub bool);
+
+impl fmt::Display for YesOrNo {
+    ghost output = { λ answer. Some (yes_or_no answer) };
+
+    fn fmt<W: fmt::Write>(&self, f: &mut fmt::Formatter<W>) -> fmt::Result {
+        f.write_str(if self.0 { "yes" } else { "no" })
     }
 }

@@ -13,7 +13,7 @@ use Rattle.message.specs.Walk.{begin, fixed, field8, field16, profile_list, comp
 use Rattle.message.specs.Body as Body
 use Rattle.message.specs.Body.{Content, refused, fields, content}
 use Rattle.message.specs.declared.framing.Kind.{Kind}
-use Rattle.message.specs.declared.bodies.KeyLengths.{KeyLengths}
+use Rattle.message.specs.Keys.{KeyLengths}
 use Rattle.message.specs.declared.bodies.Fields.TheVariants.{SupportedProfiles, UnsupportedVersion, MediaKeys, TunneledDtls, EndpointDisconnect}
 use Rattle.message.proofs.WalkSays.{past_says, complete_says}
 

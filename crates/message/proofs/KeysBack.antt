@@ -13,7 +13,7 @@ use Rattle.message.specs.Body as Body
 use Rattle.message.specs.Parts.{identifier_bounds, key_bounds, meaning}
 use Rattle.message.specs.Claims.{ReadsBack}
 use Rattle.message.specs.declared.bodies.Fields.TheVariants.{MediaKeys}
-use Rattle.message.specs.declared.bodies.KeyLengths.{KeyLengths}
+use Rattle.message.specs.Keys.{KeyLengths}
 use Rattle.octets.proofs.HoldLaws.{holds_all, holds_two, holds_number}
 use Rattle.message.proofs.WalkLaws.{fixed_good, field8_good, complete_good}
 use Rattle.message.proofs.AnswerLaws.{Fits}

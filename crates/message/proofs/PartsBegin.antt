@@ -14,7 +14,7 @@ use Rattle.octets.proofs.PartLaws.{part_length}
 use Rattle.octets.proofs.LentLaws.{within_begins}
 use Rattle.message.specs.Limits.{width, header}
 use Rattle.message.specs.Frame as Frame
-use Rattle.message.specs.Walk.{begin, fixed, field16, complete}
+use Rattle.message.specs.Walk.{Walk, begin, fixed, field16, complete}
 use Rattle.message.specs.Body as Body
 use Rattle.message.specs.Read.{Answer, body_answer, frame_answer, reading}
 use Rattle.message.specs.Parts.{field_bounds, bounds_of, bounds_for, field, FieldOf, BodyLength, DtlsBegins, PartsBegin}
@@ -22,7 +22,6 @@ use Rattle.message.specs.declared.framing.Kind.{Kind}
 use Rattle.message.specs.declared.bodies.Fields.{Fields}
 use Rattle.message.specs.declared.bodies.Fields.TheVariants.{SupportedProfiles, UnsupportedVersion, MediaKeys, TunneledDtls, EndpointDisconnect}
 use Rattle.message.specs.declared.bounds.Field.{Field}
-use Rattle.message.specs.declared.walking.Walk.{Walk}
 use Rattle.message.proofs.FrameSays.{Whole, whole_type, FrameSays, frame_says}
 use Rattle.message.proofs.WalkSays.{past_says, complete_says}
 use Rattle.message.proofs.Encoded.{body_of, body_length}

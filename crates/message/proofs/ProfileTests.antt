@@ -20,7 +20,7 @@ use Rattle.message.specs.Parts.{identifier_bounds, key_bounds, meaning}
 use Rattle.message.specs.Claims.{WritesBack}
 use Rattle.message.specs.ProfileTests.{EntryOf, KeysOf, ProfileTests}
 use Rattle.message.specs.declared.bodies.Fields.TheVariants.{MediaKeys}
-use Rattle.message.specs.declared.bodies.KeyLengths.{KeyLengths}
+use Rattle.message.specs.Keys.{KeyLengths}
 use Rattle.message.proofs.KeyFields.{keys_written}
 use Rattle.message.proofs.ReadSays.{reading_says}
 

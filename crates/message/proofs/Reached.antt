@@ -16,9 +16,8 @@ use Rattle.octets.proofs.PartLaws.{part_join, part_length, part_none}
 use Rattle.octets.proofs.RangeLaws.{inside}
 use Rattle.message.specs.Limits.{header, most8, most16}
 use Rattle.message.specs.Message.{vector8, vector16}
-use Rattle.message.specs.Walk.{begin, past, fixed, field8, field16, profile_list}
+use Rattle.message.specs.Walk.{Walk, begin, past, fixed, field8, field16, profile_list}
 use Rattle.message.specs.declared.framing.Kind.{Kind}
-use Rattle.message.specs.declared.walking.Walk.{Walk}
 use Rattle.octets.proofs.InPart.{octet_in, number_in}
 use Rattle.message.proofs.FrameSays.{Whole}
 use Rattle.message.proofs.WalkSays.{past_says}

@@ -15,7 +15,7 @@ use Rattle.octets.proofs.PartLaws.{part_length}
 use Rattle.message.specs.Limits.{width, header}
 use Rattle.message.specs.Message.{type_of, encode_body}
 use Rattle.message.specs.Frame as Frame
-use Rattle.message.specs.Walk.{complete}
+use Rattle.message.specs.Walk.{Walk, complete}
 use Rattle.message.specs.Body as Body
 use Rattle.message.specs.Read.{Answer, more_needed, refused, accepted, body_answer, frame_answer, reading}
 use Rattle.message.specs.Parts.{identifier_bounds, meaning}
@@ -24,7 +24,6 @@ use Rattle.message.specs.Claims.{WritesBack}
 use Rattle.message.specs.declared.framing.Kind.{Kind}
 use Rattle.message.specs.declared.bodies.Fields.{Fields}
 use Rattle.message.specs.declared.bodies.Fields.TheVariants.{SupportedProfiles, UnsupportedVersion, MediaKeys, TunneledDtls, EndpointDisconnect}
-use Rattle.message.specs.declared.walking.Walk.{Walk}
 use Rattle.message.proofs.FrameSays.{Version, Whole, whole_type, FrameSays, frame_says}
 use Rattle.message.proofs.WalkSays.{complete_says}
 use Rattle.message.proofs.Encoded.{body_of, body_length, encoded, encoded_written, encoded_output}

@@ -1,19 +1,18 @@
--- Steps of a walk by where the field ends: they go past it, and what a good one says. TunneledDtls and EndpointDisconnect by their lengths.
-use Prim.Native.Nat.{ℕ, ◌+◌, ◌≤◌, ◌<◌}
+-- Steps of a walk by where the field ends: they go past it, and what a good one says. SupportedProfiles by where its list ends, TunneledDtls and EndpointDisconnect by their lengths.
+use Prim.Native.Nat.{ℕ, ◌+◌, ◌%◌, ◌≤◌, ◌<◌}
 use mathlib.Core.Path.{◌≡◌, refl, sym, ap, ◌∙◌}
-use mathlib.Core.Bool.{true}
+use mathlib.Core.Bool.{Bool, true, false, ◌&&◌}
 use mathlib.Core.List.{List}
 use native.Mathlib.Omega.{arith}
 use lib.ListN.{length}
-use lib.Dec.{leb}
+use lib.Dec.{leb, eqb}
 use borrow.Author.Tests.{le-leb, leb-true}
 use Rattle.octets.specs.Number.{octet_at, number16_at}
 use Rattle.octets.proofs.Tests.{by_choice}
 use Rattle.message.specs.Limits.{width}
-use Rattle.message.specs.Walk.{begin, walk_at, fixed, field8, field16}
-use Rattle.message.specs.Body.{Content, fields, refused, tunneled_dtls, endpoint_disconnect}
-use Rattle.message.specs.declared.bodies.Fields.TheVariants.{TunneledDtls, EndpointDisconnect}
-use Rattle.message.specs.declared.walking.Walk.{Walk}
+use Rattle.message.specs.Walk.{Walk, begin, walk_at, past, fixed, field8, field16, profile_list}
+use Rattle.message.specs.Body.{Content, fields, refused, supported_profiles, tunneled_dtls, endpoint_disconnect}
+use Rattle.message.specs.declared.bodies.Fields.TheVariants.{SupportedProfiles, TunneledDtls, EndpointDisconnect}
 use Rattle.message.proofs.WalkLaws.{past_good, complete_good}
 use Rattle.message.proofs.WalkSays.{past_says, complete_says}
 
@@ -88,6 +87,31 @@ module _ (body : List ℕ) where
       let e = complete_says body (field16 body (fixed body width begin)) t in
       let f = field16_says width (fixed body width begin) identified e.0 in
       absurd (n f.0 (sym f.1 ∙ e.1))) (λ _. refl)
+
+  -- ---- SupportedProfiles
+
+  pub stands_still : (at : ℕ) → profile_list body (walk_at false at) ≡ walk_at false at
+  unfolding profile_list past
+  stands_still at = refl
+
+  version_at : (profile_list body (fixed body 1 begin)).good ≡ true → (fixed body 1 begin).at ≡ 1
+  unfolding profile_list
+  version_at g =
+      let w = fixed body 1 begin in
+      let n = number16_at body w.at in
+      fixed_is_at 1 0 begin (λ _. refl) (past_says (length body) (leb 1 n && eqb (n % 2) 0) (2 + n) w g).before
+
+  pub profiles_whole : profile_list body (fixed body 1 begin) ≡ walk_at true (length body)
+      → fields (SupportedProfiles (octet_at body 0) (number16_at body 1)) ≡ supported_profiles body
+  unfolding supported_profiles
+  profiles_whole e = rw (e, complete_good body (length body) refl, version_at (ap (λ (w : Walk). w.good) e)) refl
+
+  pub profiles_bad : (profile_list body (fixed body 1 begin) ≡ walk_at true (length body) → ⊥) → refused 5 ≡ supported_profiles body
+  unfolding supported_profiles
+  profiles_bad n =
+      by_choice (λ (x : Content). refused 5 ≡ x) _ _ _ (λ t.
+      let e = complete_says body (profile_list body (fixed body 1 begin)) t in
+      absurd (n (ap (λ (b : Bool). walk_at b (profile_list body (fixed body 1 begin)).at) e.0 ∙ ap (walk_at true) e.1))) (λ _. refl)
 
   -- ---- EndpointDisconnect
 

@@ -7,8 +7,7 @@ use lib.ListN.{length}
 use lib.Dec.{leb, eqb}
 use borrow.Author.Tests.{leb-true, eqb-true}
 use Rattle.octets.proofs.Tests.{by_choice, both, false_true}
-use Rattle.message.specs.Walk.{past, complete}
-use Rattle.message.specs.declared.walking.Walk.{Walk}
+use Rattle.message.specs.Walk.{Walk, past, complete}
 
 -- the walk v is the walk w past n octets
 pub record Past (body_length : ℕ) (good : Bool) (n : ℕ) (w v : Walk) : Type 0 where

@@ -1,13 +1,13 @@
 -- What a body holds, by the message's type: RFC 9185, sections 6.2 to 6.6; document 01, step 4 of the reading. The body alone is read.
-use Rattle.std.specs.Prelude.{ℕ, cond, List, length, leb}
+use Rattle.std.specs.Prelude.{ℕ, cond, List, length, leb, Result, Ok, Err}
 use Rattle.octets.specs.Number.{octet_at, number16_at}
+use Rattle.octets.specs.Refusal.{number_of}
+use Rattle.octets.specs.declared.refusal.Refusal.{Refusal}
 use Rattle.message.specs.Limits.{width}
-use Rattle.message.specs.Walk.{begin, fixed, field8, field16, profile_list, complete}
+use Rattle.message.specs.Walk.{Walk, begin, fixed, field8, field16, profile_list, complete}
 use Rattle.message.specs.declared.framing.Kind.{Kind}
 use Rattle.message.specs.declared.bodies.Fields.{Fields}
 use Rattle.message.specs.declared.bodies.Fields.TheVariants.{SupportedProfiles, UnsupportedVersion, MediaKeys, TunneledDtls, EndpointDisconnect}
-use Rattle.message.specs.declared.bodies.Body.{Body}
-use Rattle.message.specs.declared.walking.Walk.{Walk}
 
 -- a refusal by its number, or the fields: their numbers and lengths, from which their bounds follow (Parts)
 pub data Content : Type 0 where
@@ -68,8 +68,7 @@ content Kind.TunneledDtls body = tunneled_dtls body
 content Kind.EndpointDisconnect body = endpoint_disconnect body
 content Kind.Unlisted body = refused 3
 
--- the number and the values that each case of the enum stands for
-abbrev pub content_of : Body → Content
-content_of Body.Unlisted = refused 3
-content_of Body.Bad = refused 5
-content_of (Body.Good f) = fields f
+-- the number and the values that each case of a result stands for
+abbrev pub content_of : Result Fields Refusal → Content
+content_of (Ok f) = fields f
+content_of (Err r) = refused (number_of r)

@@ -2,6 +2,7 @@ pub mod Limits
 pub mod Message
 pub mod Frame
 pub mod Walk
+pub mod Keys
 pub mod Body
 pub mod Read
 pub mod Direction

@@ -1,5 +1,5 @@
 -- Where the fields of a message stand in the lent octets, and the message that they make up: RFC 9185, sections 6.2 to 6.6.
-use Rattle.std.specs.Prelude.{ℕ, ◌+◌, List, ◌≡◌, length}
+use Rattle.std.specs.Prelude.{ℕ, ◌+◌, List, ◌≡◌, length, Option, Some, None}
 use Rattle.std.specs.Borrow.{Bor}
 use Rattle.octets.specs.Number.{number16_at}
 use Rattle.octets.specs.Bounds.{between, behind, nowhere, part_in}
@@ -10,8 +10,8 @@ use Rattle.message.specs.Message as Message
 use Rattle.message.specs.Read.{Answer, more_needed, refused, accepted, reading}
 use Rattle.message.specs.declared.bodies.Fields.{Fields}
 use Rattle.message.specs.declared.bodies.Fields.TheVariants.{SupportedProfiles, UnsupportedVersion, MediaKeys, TunneledDtls, EndpointDisconnect}
-use Rattle.message.specs.declared.bodies.KeyLengths.{KeyLengths}
-use Rattle.message.specs.declared.bounds.KeyBounds.{KeyBounds}
+use Rattle.message.specs.Keys.{KeyLengths}
+use Rattle.message.specs.Keys.{KeyBounds}
 use Rattle.message.specs.declared.bounds.FieldBounds.{FieldBounds}
 use Rattle.message.specs.declared.bounds.Field.{Field}
 
@@ -84,6 +84,16 @@ dtls_in (accepted (UnsupportedVersion version) taken) = 0
 dtls_in (accepted (MediaKeys profile k) taken) = 0
 dtls_in (accepted (TunneledDtls n) taken) = n
 dtls_in (accepted EndpointDisconnect taken) = 0
+
+-- the same, none where it has none
+abbrev pub dtls_found : Answer → Option ℕ
+dtls_found more_needed = None
+dtls_found (refused number taken) = None
+dtls_found (accepted (SupportedProfiles version n) taken) = None
+dtls_found (accepted (UnsupportedVersion version) taken) = None
+dtls_found (accepted (MediaKeys profile k) taken) = None
+dtls_found (accepted (TunneledDtls n) taken) = Some n
+dtls_found (accepted EndpointDisconnect taken) = None
 
 -- a field of the message at the front of s, as a part of s
 unfoldable pub field : List ℕ → Field → List ℕ

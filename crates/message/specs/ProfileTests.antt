@@ -4,7 +4,7 @@ use Rattle.octets.specs.Number.{octet_at, Octets}
 use Rattle.message.specs.Profiles as Profiles
 use Rattle.message.specs.Read.{accepted, reading}
 use Rattle.message.specs.declared.bodies.Fields.TheVariants.{MediaKeys}
-use Rattle.message.specs.declared.bodies.KeyLengths.{KeyLengths}
+use Rattle.message.specs.Keys.{KeyLengths}
 
 -- a list's entry: which one it is, that both its octets are there, and the profile that they tell
 pub record EntryOf (list : List ℕ) (profile : ℕ) : Type 0 where

@@ -1,7 +1,7 @@
 -- The SRTP protection profiles that we speak, and the rules that tables of associations share: document 01, "The record and its calls".
-use Rattle.std.specs.Prelude.{ℕ, ◌+◌, ◌*◌, ◌%◌, Bool, true, false, cond, not, ◌&&◌, ◌||◌, List, [], ◌∷◌, length, leb, eqb}
+use Rattle.std.specs.Prelude.{ℕ, ◌+◌, ◌*◌, ◌%◌, Bool, true, false, cond, not, ◌&&◌, ◌||◌, List, [], ◌∷◌, length, leb, eqb, Option, Some, None}
 use Rattle.message.specs.Limits.{mki_limit, salt_limit}
-use Rattle.message.specs.declared.bodies.KeyLengths.{KeyLengths}
+use Rattle.message.specs.Keys.{KeyLengths}
 
 -- a profile and the length of its keys: half the usual, as only the hop-by-hop half is told (RFC 9185, section 5.4)
 pub record Profile : Type 0 where
@@ -27,6 +27,10 @@ listed p (row ∷ rows) = eqb p row.number || listed p rows
 
 unfoldable pub is_profile : ℕ → Bool
 is_profile p = listed p profiles
+
+-- the key length of a profile that is one of ours, none of any other
+unfoldable pub found_key_length : ℕ → Option ℕ
+found_key_length p = cond (is_profile p) (Some (key_length p)) None
 
 -- ---- profile lists, lent as octets, two to a profile
 

@@ -1,12 +1,14 @@
 -- What reading the front of lent octets answers: document 01, "Reading the front of a lent stretch".
-use Rattle.std.specs.Prelude.{ℕ, ◌+◌, List, length}
+use Rattle.std.specs.Prelude.{ℕ, ◌+◌, List, length, Option, Some, None, Result, Ok, Err}
 use Rattle.octets.specs.Part.{part}
+use Rattle.octets.specs.Refusal.{number_of}
 use Rattle.message.specs.Limits.{header}
 use Rattle.message.specs.Frame as Frame
 use Rattle.message.specs.Body as Body
 use Rattle.message.specs.declared.bodies.Fields.{Fields}
 use Rattle.message.specs.declared.bodies.Fields.TheVariants.{UnsupportedVersion}
-use Rattle.message.specs.declared.reading.Read.{Read}
+use Rattle.message.specs.declared.reading.Message.{Message}
+use Rattle.message.specs.declared.reading.Refused.{Refused}
 
 -- more needed, which takes nothing; a refusal by its number; or the fields; each with the octets taken
 pub data Answer : Type 0 where
@@ -28,10 +30,8 @@ frame_answer s (Frame.whole kind n) = body_answer (header + n) (Body.content kin
 unfoldable pub reading : List ℕ → Answer
 reading s = frame_answer s (Frame.frame s)
 
--- the number and the values that each case of the enum stands for
-abbrev pub answer_of : Read → Answer
-answer_of Read.MoreNeeded = more_needed
-answer_of Read.Oversize = refused 2 0
-answer_of (Read.Unlisted taken) = refused 3 taken
-answer_of (Read.BadBody taken) = refused 5 taken
-answer_of (Read.Accepted f taken) = accepted f taken
+-- the number and the values that each case of a result stands for
+abbrev pub answer_of : Result (Option Message) Refused → Answer
+answer_of (Ok None) = more_needed
+answer_of (Ok (Some m)) = accepted m.fields m.taken
+answer_of (Err r) = refused (number_of r.refusal) r.taken

@@ -1,9 +1,12 @@
 -- A walk over a body, field by field: it stands still at the first field that is missing, cut short or outside its lengths (document 01, "Tunnel messages").
-use Rattle.std.specs.Prelude.{ℕ, ◌+◌, ◌%◌, Bool, true, false, cond, ◌&&◌, List, length, leb, eqb}
+use Rattle.std.specs.Prelude.{ℕ, ◌+◌, ◌%◌, Bool, true, false, cond, ◌&&◌, List, length, leb, eqb, Result, Ok, Err}
 use Rattle.octets.specs.Number.{octet_at, number16_at}
-use Rattle.message.specs.declared.walking.Walk.{Walk}
 
 -- whether every field so far was good, and the offset in the body where the walk stands
+pub record Walk : Type 0 where
+  pub good : Bool
+  pub at : ℕ
+
 abbrev pub walk_at : Bool → ℕ → Walk
 walk_at good at = record { good = good; at = at }
 
@@ -34,3 +37,8 @@ profile_list body w =
 -- every field was good, and the body ends where the last one ends
 unfoldable pub complete : List ℕ → Walk → Bool
 complete body w = w.good && eqb w.at (length body)
+
+-- the walk that each case of a result stands for
+abbrev pub walk_of : Result ℕ ℕ → Walk
+walk_of (Ok at) = walk_at true at
+walk_of (Err at) = walk_at false at

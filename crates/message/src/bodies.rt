@@ -1,21 +1,16 @@
 // What a body holds, by the message's kind. The body alone is read.
-ghost use Rattle.std.specs.Prelude.{◌≡◌};
+ghost use Rattle.std.specs.Prelude.{◌≡◌, true};
 ghost use Rattle.message.specs.Body as Spec;
+ghost use Rattle.message.specs.Walk as Walk;
 
 use crate::framing::Kind;
+use crate::keys::Keys;
 use crate::limits::WIDTH;
 use crate::walking;
-use crate::walking::{BEGIN, Walk};
+use octets::Refusal;
 
 // The length octets of MediaKeys.
-#[derive(Clone, Copy)]
-pub struct KeyLengths {
-    pub mki: u8,
-    pub client_key: u8,
-    pub server_key: u8,
-    pub client_salt: u8,
-    pub server_salt: u8,
-}
+pub type KeyLengths = Keys<u8>;
 
 // The numbers and lengths of a message's fields; `bounds_of` tells where they stand.
 #[derive(Clone, Copy)]
@@ -27,55 +22,44 @@ pub enum Fields {
     EndpointDisconnect,
 }
 
-#[derive(Clone, Copy)]
-pub enum Body {
-    // Refusal 3.
-    Unlisted,
-    // Refusal 5.
-    Bad,
-    Good { fields: Fields },
-}
-
-// Fields of which the last ends the body, or refusal 5.
-fn ending(body: &[u8], w: Walk, fields: Fields) -> Body
-    ensures { Spec.content_of result ≡ Spec.ending body.now w fields }
+// A SupportedProfiles: version 1, then the list.
+#[tactic(auto, using(crate::proofs::WalkEnds::stands_still))]
+fn walk_profiles(body: &[u8]) -> Result<usize, usize>
+    ensures { Walk.walk_of result ≡ Walk.profile_list body.now (Walk.fixed body.now 1 Walk.begin) }
 {
-    if walking::complete(body, w) {
-        Body::Good { fields }
-    } else {
-        Body::Bad
-    }
+    let list_at = walking::fixed(body, 1, 0)?;
+    walking::profile_list(body, list_at)
 }
 
-fn supported_profiles(body: &[u8]) -> Body
+#[tactic(auto, using(crate::proofs::WalkEnds::profiles_whole, crate::proofs::WalkEnds::profiles_bad))]
+fn supported_profiles(body: &[u8]) -> Result<Fields, Refusal>
     ensures { Spec.content_of result ≡ Spec.supported_profiles body.now }
 {
-    let version = walking::fixed(body, 1, BEGIN);
-    let list = walking::profile_list(body, version);
-    let fields = Fields::SupportedProfiles {
+    if walk_profiles(body) != Ok(body.len()) {
+        return Err(Refusal::BadBody);
+    }
+    Ok(Fields::SupportedProfiles {
         version: octets::octet(body, 0),
-        list_length: octets::number16(body, version.at),
-    };
-    ending(body, list, fields)
+        list_length: octets::number16(body, 1),
+    })
 }
 
-fn unsupported_version(body: &[u8]) -> Body
+#[tactic(auto, unfolding(crate::specs::Body::unsupported_version))]
+fn unsupported_version(body: &[u8]) -> Result<Fields, Refusal>
     ensures { Spec.content_of result ≡ Spec.unsupported_version body.now }
 {
-    if 1 <= body.len() {
-        Body::Good {
-            fields: Fields::UnsupportedVersion {
-                version: octets::octet(body, 0),
-            },
-        }
-    } else {
-        Body::Bad
+    if body.is_empty() {
+        return Err(Refusal::BadBody);
     }
+    Ok(Fields::UnsupportedVersion {
+        version: octets::octet(body, 0),
+    })
 }
 
 // One test for all seven fields, and in the two functions below for all fields too: where the last of them ends the body,
 // each length octet stood inside it.
-fn media_keys(body: &[u8]) -> Body
+#[tactic(auto, using(crate::proofs::KeyEnds::one_test))]
+fn media_keys(body: &[u8]) -> Result<Fields, Refusal>
     ensures { Spec.content_of result ≡ Spec.media_keys body.now }
 {
     let mki = octets::octet(body, WIDTH + 2);
@@ -89,53 +73,47 @@ fn media_keys(body: &[u8]) -> Body
     let server_salt = octets::octet(body, server_salt_at);
     let end = server_salt_at + 1 + server_salt as usize;
     let some = (1 <= client_key) & (1 <= server_key) & (1 <= client_salt) & (1 <= server_salt);
-    if some & (end == body.len()) {
-        Body::Good {
-            fields: Fields::MediaKeys {
-                profile: octets::number16(body, WIDTH),
-                lengths: KeyLengths {
-                    mki,
-                    client_key,
-                    server_key,
-                    client_salt,
-                    server_salt,
-                },
-            },
-        }
-    } else {
-        Body::Bad
+    if !(some & (end == body.len())) {
+        return Err(Refusal::BadBody);
     }
+    Ok(Fields::MediaKeys {
+        profile: octets::number16(body, WIDTH),
+        lengths: KeyLengths {
+            mki,
+            client_key,
+            server_key,
+            client_salt,
+            server_salt,
+        },
+    })
 }
 
-fn tunneled_dtls(body: &[u8]) -> Body
+#[tactic(auto, using(crate::proofs::WalkEnds::dtls_whole, crate::proofs::WalkEnds::dtls_bad))]
+fn tunneled_dtls(body: &[u8]) -> Result<Fields, Refusal>
     ensures { Spec.content_of result ≡ Spec.tunneled_dtls body.now }
 {
     if body.len() <= WIDTH + 2 {
-        return Body::Bad;
+        return Err(Refusal::BadBody);
     }
     let dtls_length = octets::number16(body, WIDTH);
-    if WIDTH + 2 + dtls_length as usize == body.len() {
-        Body::Good {
-            fields: Fields::TunneledDtls { dtls_length },
-        }
-    } else {
-        Body::Bad
+    if WIDTH + 2 + dtls_length as usize != body.len() {
+        return Err(Refusal::BadBody);
     }
+    Ok(Fields::TunneledDtls { dtls_length })
 }
 
-fn endpoint_disconnect(body: &[u8]) -> Body
+#[tactic(auto, using(crate::proofs::WalkEnds::disconnect_whole, crate::proofs::WalkEnds::disconnect_bad))]
+fn endpoint_disconnect(body: &[u8]) -> Result<Fields, Refusal>
     ensures { Spec.content_of result ≡ Spec.endpoint_disconnect body.now }
 {
-    if body.len() == WIDTH {
-        Body::Good {
-            fields: Fields::EndpointDisconnect,
-        }
-    } else {
-        Body::Bad
+    if body.len() != WIDTH {
+        return Err(Refusal::BadBody);
     }
+    Ok(Fields::EndpointDisconnect)
 }
 
-pub fn read_body(kind: Kind, body: &[u8]) -> Body
+#[tactic(auto, unfolding(crate::specs::Body::content))]
+pub fn read_body(kind: Kind, body: &[u8]) -> Result<Fields, Refusal>
     ensures { Spec.content_of result ≡ Spec.content kind body.now }
 {
     match kind {
@@ -144,6 +122,6 @@ pub fn read_body(kind: Kind, body: &[u8]) -> Body
         Kind::MediaKeys => media_keys(body),
         Kind::TunneledDtls => tunneled_dtls(body),
         Kind::EndpointDisconnect => endpoint_disconnect(body),
-        Kind::Unlisted => Body::Unlisted,
+        Kind::Unlisted => Err(Refusal::UnlistedType),
     }
 }

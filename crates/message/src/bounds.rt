@@ -7,20 +7,14 @@ ghost use Rattle.octets.specs.Lent.{PartIn};
 ghost use Rattle.message.specs.Limits.{header, most16};
 
 use crate::bodies::{Fields, KeyLengths};
+use crate::keys::Keys;
 use crate::limits::{BEFORE_DTLS, BEFORE_LIST, HEADER, WIDTH};
-use crate::reading::{Read, read_message};
+use crate::reading::{Message, Refused, read_message};
 use octets::{Bounds, NOWHERE};
 
-#[derive(Clone, Copy)]
-pub struct KeyBounds {
-    pub mki: Bounds,
-    pub client_key: Bounds,
-    pub server_key: Bounds,
-    pub client_salt: Bounds,
-    pub server_salt: Bounds,
-}
+pub type KeyBounds = Keys<Bounds>;
 
-// The bounds of every field; those of one that is not there are 0 and 0.
+// The bounds of every field; those of one that is not there are 0 and 0, as `bounds_of` of specs/Parts.antt has them and C reads them.
 #[derive(Clone, Copy)]
 pub struct FieldBounds {
     pub body: Bounds,
@@ -30,7 +24,7 @@ pub struct FieldBounds {
     pub keys: KeyBounds,
 }
 
-#[derive(Clone, Copy)]
+#[derive(Clone, Copy, Debug, PartialEq, Eq)]
 pub enum Field {
     Body,
     Identifier,
@@ -74,118 +68,101 @@ pub fn dtls_bounds(n: u16) -> Bounds
     behind(BEFORE_DTLS, n)
 }
 
-// Where the key fields of a MediaKeys with these lengths stand.
-pub fn key_bounds(k: KeyLengths) -> KeyBounds
-    ensures { result ≡ Spec.key_bounds k }
-{
-    let mki = behind(HEADER + WIDTH + 3, k.mki as u16);
-    let client_key = next(mki, k.client_key);
-    let server_key = next(client_key, k.server_key);
-    let client_salt = next(server_key, k.client_salt);
-    let server_salt = next(client_salt, k.server_salt);
-    KeyBounds {
-        mki,
-        client_key,
-        server_key,
-        client_salt,
-        server_salt,
+impl KeyLengths {
+    // Where the key fields of a MediaKeys with these lengths stand.
+    pub fn bounds(self) -> KeyBounds
+        ensures { result ≡ Spec.key_bounds self }
+    {
+        let mki = behind(HEADER + WIDTH + 3, self.mki as u16);
+        let client_key = next(mki, self.client_key);
+        let server_key = next(client_key, self.server_key);
+        let client_salt = next(server_key, self.client_salt);
+        let server_salt = next(client_salt, self.server_salt);
+        KeyBounds {
+            mki,
+            client_key,
+            server_key,
+            client_salt,
+            server_salt,
+        }
     }
 }
 
-fn no_keys() -> KeyBounds
-    ensures { result ≡ Spec.no_keys }
-{
-    let none = NOWHERE;
-    KeyBounds {
-        mki: none,
-        client_key: none,
-        server_key: none,
-        client_salt: none,
-        server_salt: none,
-    }
-}
+const NO_KEYS: KeyBounds = KeyBounds {
+    mki: NOWHERE,
+    client_key: NOWHERE,
+    server_key: NOWHERE,
+    client_salt: NOWHERE,
+    server_salt: NOWHERE,
+};
 
-fn no_bounds() -> FieldBounds
-    ensures { result ≡ Spec.bounds_at B.nowhere B.nowhere B.nowhere B.nowhere Spec.no_keys }
-{
-    let none = NOWHERE;
-    FieldBounds {
-        body: none,
-        identifier: none,
-        profile_list: none,
-        dtls: none,
-        keys: no_keys(),
-    }
-}
+const NO_FIELDS: FieldBounds = FieldBounds {
+    body: NOWHERE,
+    identifier: NOWHERE,
+    profile_list: NOWHERE,
+    dtls: NOWHERE,
+    keys: NO_KEYS,
+};
 
 // A body that ends at an offset and starts with an identifier, and no other field.
 fn identified(end: usize) -> FieldBounds
     ensures { result ≡ Spec.bounds_at (B.between header end) Spec.identifier_bounds B.nowhere B.nowhere Spec.no_keys }
 {
-    let none = NOWHERE;
     FieldBounds {
         body: Bounds { start: HEADER, end },
         identifier: IDENTIFIER,
-        profile_list: none,
-        dtls: none,
-        keys: no_keys(),
+        ..NO_FIELDS
     }
 }
 
-// Three types have an identifier, and each but one of these has another field.
-fn field_bounds(fields: Fields, taken: usize) -> FieldBounds
-    ensures { result ≡ Spec.field_bounds fields taken }
-{
-    let mut p = identified(taken);
-    match fields {
-        Fields::SupportedProfiles {
-            version: _,
-            list_length,
-        } => {
-            p.identifier = behind(0, 0);
-            p.profile_list = behind(BEFORE_LIST, list_length);
+impl Message {
+    // Where its fields stand. Three types have an identifier, and each but one of these has another field.
+    pub fn bounds(self) -> FieldBounds
+        ensures { result ≡ Spec.field_bounds self.fields self.taken }
+    {
+        let mut p = identified(self.taken);
+        match self.fields {
+            Fields::SupportedProfiles { list_length, .. } => {
+                p.identifier = NOWHERE;
+                p.profile_list = behind(BEFORE_LIST, list_length);
+            }
+            Fields::UnsupportedVersion { .. } => {
+                p.identifier = NOWHERE;
+                p.body = behind(HEADER, 1);
+            }
+            Fields::MediaKeys { lengths, .. } => p.keys = lengths.bounds(),
+            Fields::TunneledDtls { dtls_length } => p.dtls = dtls_bounds(dtls_length),
+            Fields::EndpointDisconnect => {}
         }
-        Fields::UnsupportedVersion { version: _ } => {
-            p.identifier = behind(0, 0);
-            p.body = behind(HEADER, 1);
-        }
-        Fields::MediaKeys {
-            profile: _,
-            lengths,
-        } => p.keys = key_bounds(lengths),
-        Fields::TunneledDtls { dtls_length } => p.dtls = dtls_bounds(dtls_length),
-        Fields::EndpointDisconnect => {}
+        p
     }
-    p
 }
 
 // Where the fields stand that an answer has.
-pub fn bounds_of(read: Read) -> FieldBounds
+pub fn bounds_of(read: Result<Option<Message>, Refused>) -> FieldBounds
     ensures { result ≡ Spec.bounds_of (answer_of read) }
 {
     match read {
-        Read::MoreNeeded => {}
-        Read::Oversize => {}
-        Read::Unlisted { taken: _ } => {}
-        Read::BadBody { taken: _ } => {}
-        Read::Accepted { fields, taken } => return field_bounds(fields, taken),
+        Ok(Some(message)) => message.bounds(),
+        Ok(None) | Err(_) => NO_FIELDS,
     }
-    no_bounds()
 }
 
-pub fn bounds_for(p: FieldBounds, field: Field) -> Bounds
-    ensures { result ≡ Spec.bounds_for p field }
-{
-    match field {
-        Field::Body => p.body,
-        Field::Identifier => p.identifier,
-        Field::ProfileList => p.profile_list,
-        Field::Dtls => p.dtls,
-        Field::Mki => p.keys.mki,
-        Field::ClientKey => p.keys.client_key,
-        Field::ServerKey => p.keys.server_key,
-        Field::ClientSalt => p.keys.client_salt,
-        Field::ServerSalt => p.keys.server_salt,
+impl FieldBounds {
+    pub fn of(self, field: Field) -> Bounds
+        ensures { result ≡ Spec.bounds_for self field }
+    {
+        match field {
+            Field::Body => self.body,
+            Field::Identifier => self.identifier,
+            Field::ProfileList => self.profile_list,
+            Field::Dtls => self.dtls,
+            Field::Mki => self.keys.mki,
+            Field::ClientKey => self.keys.client_key,
+            Field::ServerKey => self.keys.server_key,
+            Field::ClientSalt => self.keys.client_salt,
+            Field::ServerSalt => self.keys.server_salt,
+        }
     }
 }
 
@@ -193,7 +170,7 @@ pub fn bounds_for(p: FieldBounds, field: Field) -> Bounds
 pub fn field_of(s: &[u8], field: Field) -> &[u8]
     ensures { Spec.FieldOf s.entry field result }
 {
-    octets::part_in(s, bounds_for(bounds_of(read_message(s)), field))
+    octets::part_in(s, bounds_of(read_message(s)).of(field))
 }
 
 // The identifier that a MediaKeys, TunneledDtls or EndpointDisconnect at the front of s names. Of other octets it is those that

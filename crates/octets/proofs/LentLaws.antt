@@ -1,40 +1,19 @@
 -- Where a part of a lent slice begins.
 use Prim.Native.Nat.{ℕ, ◌+◌, ◌-◌, ◌≤◌, ◌<◌, min}
-use mathlib.Core.Path.{◌≡◌, sym, ap, subst, ◌∙◌}
+use mathlib.Core.Path.{◌≡◌, ap, ◌∙◌}
 use mathlib.Core.List.{List}
 use native.Mathlib.Omega.{arith}
 use lib.ListN.{length, drop, length-take, length-drop}
-use borrow.Author.Tests.{le-leb, lt-leb}
+use borrow.Author.Tests.{le-leb}
 use denote.Ref.{Bor}
 use Rattle.octets.specs.Part.{part, part_start}
-use Rattle.octets.specs.Lent.{BeginsAt, PartOf, PartIn}
-use Rattle.octets.specs.declared.parts.Bounds.{Bounds}
+use Rattle.octets.specs.Lent.{BeginsAt, PartOf}
 
 start_within : (s : List ℕ) (from to : ℕ) → from ≤ to → from ≤ length s → part_start s from to ≡ from
 unfolding part_start
 start_within s from to h k = rw (le-leb from (min to (length s)) (omega arith))
 
-start_front : (s : List ℕ) (from to : ℕ) → min to (length s) < from → part_start s from to ≡ 0
-unfolding part_start
-start_front s from to h = rw (lt-leb from (min to (length s)) h)
-
 module _ {s r : Bor (List ℕ)} {from to : ℕ} where
-  -- ---- what makes a part
-
-  pub part_here : from ≤ to → from ≤ length s.now → r.now ≡ part s.now from to → BeginsAt s from r → PartOf s from to r
-  part_here h k octets at = record {
-    octets = octets;
-    begins = record { block = at.block; start = at.start ∙ ap (λ (n : ℕ). s.ref_ptr.1 + n) (sym (start_within s.now from to h k)) };
-  }
-
-  pub part_in_front : min to (length s.now) < from → r.now ≡ part s.now from to → BeginsAt s 0 r → PartOf s from to r
-  part_in_front h octets at = record {
-    octets = octets;
-    begins = record { block = at.block; start = at.start ∙ ap (λ (n : ℕ). s.ref_ptr.1 + n) (sym (start_front s.now from to h)) };
-  }
-
-  -- ---- what a part says
-
   pub within_begins : PartOf s from to r → from ≤ to → from ≤ length s.now → BeginsAt s from r
   within_begins p h k = record {
     block = p.begins.block;
@@ -48,7 +27,3 @@ module _ {s r : Bor (List ℕ)} {from to : ℕ} where
       let n = ap length p.octets ∙ length-take (to - from) (drop from s.now) in
       let m = length-drop from s.now in
       within_begins p (omega (arith, n, m)) (omega (arith, n, m))
-
--- bounds that a callee told
-pub same_bounds : {s r : Bor (List ℕ)} {b d : Bounds} → PartIn s b r → b ≡ d → PartIn s d r
-same_bounds {s} {r} p e = subst (λ (x : Bounds). PartIn s x r) e p

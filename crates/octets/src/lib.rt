@@ -3,11 +3,10 @@
 
 mod parts;
 mod reading;
-pub mod refusal;
-mod words;
+mod refusal;
 mod writing;
 
 pub use parts::{Bounds, NOWHERE, part, part_in, same};
 pub use reading::{holds_octets, number16, number32, octet, within};
-pub use words::{join16, join32};
+pub use refusal::Refusal;
 pub use writing::{put_number16, put_octet, put_octets};

@@ -51,15 +51,15 @@ module _ (s : Stream) (sequence : ℕ) (f : Fits s sequence) where
   from_31 : (a : Answer) → Says s sequence a → a ≡ refused 31 → BeforeFirst s sequence
   from_31 (refused number) (no_such_index e n) k = n
   from_31 (refused number) (key_spent e n) k = let z : ◌≡◌ {A = ℕ} 31 32 = cc in absurd (omega arith)
-  from_31 (found v i) t k = let z : ◌≡◌ {A = ℕ} 0 1 = cc in absurd (omega arith)
+  from_31 (found v i) t k = absurd (cc)
 
   from_32 : (a : Answer) → Says s sequence a → a ≡ refused 32 → AfterLast s sequence
   from_32 (refused number) (no_such_index e n) k = let z : ◌≡◌ {A = ℕ} 31 32 = cc in absurd (omega arith)
   from_32 (refused number) (key_spent e n) k = n
-  from_32 (found v i) t k = let z : ◌≡◌ {A = ℕ} 0 1 = cc in absurd (omega arith)
+  from_32 (found v i) t k = absurd (cc)
 
   from_found : (v i : ℕ) (a : Answer) → Says s sequence a → a ≡ found v i → Estimate s sequence v i
-  from_found v i (refused number) t k = let z : ◌≡◌ {A = ℕ} 0 1 = cc in absurd (omega arith)
+  from_found v i (refused number) t k = absurd (cc)
   from_found v i (found w j) t k =
       let d : w ≡ v = cc in
       let e : j ≡ i = cc in

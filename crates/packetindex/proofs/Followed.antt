@@ -12,12 +12,6 @@ use Rattle.packetindex.proofs.Updates.{refuses, accepts_later, updates}
 
 -- ---- the highest index never falls
 
-max_left : (a b : ℕ) → a ≤ max a b
-max_left a b = omega arith
-
-max_right : (a b : ℕ) → b ≤ max a b
-max_right a b = omega arith
-
 -- a refusal changes nothing
 pub refused_keeps : (s : Stream) (sequence number : ℕ) → estimating s sequence ≡ Estimating.refused number → next s sequence ≡ s
 refused_keeps s sequence number e = ap (kept s) (refuses s sequence number e)
@@ -27,7 +21,7 @@ next_rises s sequence = go (estimating s sequence) refl
   where
     go : (a : Estimating.Answer) → estimating s sequence ≡ a → highest_index s ≤ highest_index (next s sequence)
     go (Estimating.refused number) e = let k = ap highest_index (refused_keeps s sequence number e) in omega (arith, k)
-    go (Estimating.found v i) e = let k = (updates s sequence v i e).greater in omega (arith, k, max_left (highest_index s) i)
+    go (Estimating.found v i) e = let k = (updates s sequence v i e).greater in omega (arith, k)
 
 pub never_falls : (s : Stream) (sequence_numbers : List ℕ) → highest_index s ≤ highest_index (follow s sequence_numbers)
 never_falls s [] = omega arith
@@ -42,7 +36,7 @@ pub found_below : (s : Stream) (sequence v i : ℕ) (rest : List ℕ) → estima
 found_below s sequence v i rest e =
     let k = (updates s sequence v i e).greater in
     let b = never_falls (next s sequence) rest in
-    omega (arith, k, b, max_right (highest_index s) i)
+    omega (arith, k, b)
 
 -- ---- what is kept has its 32 and 16 bits
 

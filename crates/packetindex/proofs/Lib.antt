@@ -1,4 +1,3 @@
-pub mod RocLaws
 pub mod TriedRoc
 pub mod NearLaws
 pub mod HalfWay

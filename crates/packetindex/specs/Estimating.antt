@@ -1,10 +1,12 @@
 -- The estimate of a packet's index: RFC 3711, section 3.3.1 and appendix A, with the refusals of document 02, order 11.
-use Rattle.std.specs.Prelude.{ℕ, ◌+◌, ◌-◌, ◌*◌, ◌%◌, cond, ◌==◌, nat_lt}
+use Rattle.std.specs.Prelude.{ℕ, ◌+◌, ◌-◌, ◌*◌, ◌%◌, cond, ◌==◌, nat_lt, Result, Ok, Err}
+use Rattle.octets.specs.Refusal.{number_of}
+use Rattle.octets.specs.declared.refusal.Refusal.{Refusal}
 use Rattle.packetindex.specs.Limits.{sequence_count, half_way, roc_count}
 use Rattle.packetindex.specs.declared.stream.Stream.{Stream}
 use Rattle.packetindex.specs.declared.estimating.Neighbour.{Neighbour}
 use Rattle.packetindex.specs.declared.estimating.Neighbour.TheVariants.{OneLess, Same, OneMore}
-use Rattle.packetindex.specs.declared.estimating.Estimated.{Estimated}
+use Rattle.packetindex.specs.declared.estimating.Estimate.{Estimate}
 
 -- what the estimate answers: a refusal by its number, or the ROC tried and the index under it
 pub data Answer : Type 0 where
@@ -52,8 +54,7 @@ answer roc sequence OneMore =
 unfoldable pub estimating : Stream → (sequence : ℕ) → Answer
 estimating s sequence = answer s.roc sequence (neighbour_of s.highest sequence)
 
--- the number and the values that each case of the enum stands for
-abbrev pub answer_of : Estimated → Answer
-answer_of Estimated.NoSuchIndex = refused 31
-answer_of Estimated.KeySpent = refused 32
-answer_of (Estimated.Index roc index) = found roc index
+-- what a result stands for: a refusal by its number, or the ROC tried and the index under it
+abbrev pub answer_of : Result Estimate Refusal → Answer
+answer_of (Err refusal) = refused (number_of refusal)
+answer_of (Ok e) = found e.roc e.index

@@ -1,9 +1,10 @@
 -- The update after an accepted packet: document 02, order 11. ROC and highest number become the packet's exactly when its index is higher.
-use Rattle.std.specs.Prelude.{ℕ, cond, nat_lt}
+use Rattle.std.specs.Prelude.{ℕ, cond, nat_lt, Result, Ok, Err}
+use Rattle.octets.specs.Refusal.{number_of}
+use Rattle.octets.specs.declared.refusal.Refusal.{Refusal}
 use Rattle.packetindex.specs.Estimating as Estimating
 use Rattle.packetindex.specs.Estimating.{estimating, index_of}
 use Rattle.packetindex.specs.declared.stream.Stream.{Stream}
-use Rattle.packetindex.specs.declared.updating.Updated.{Updated}
 
 -- what an update answers: a refusal by its number, or what to keep
 pub data Answer : Type 0 where
@@ -22,11 +23,10 @@ after s sequence (Estimating.found roc index) = keep (later s sequence roc index
 unfoldable pub updating : Stream → (sequence : ℕ) → Answer
 updating s sequence = after s sequence (estimating s sequence)
 
--- the number or the stream that each case of the enum stands for
-abbrev pub answer_of : Updated → Answer
-answer_of Updated.NoSuchIndex = refused 31
-answer_of Updated.KeySpent = refused 32
-answer_of (Updated.Keep s) = keep s
+-- what a result stands for: a refusal by its number, or what to keep
+abbrev pub answer_of : Result Stream Refusal → Answer
+answer_of (Err refusal) = refused (number_of refusal)
+answer_of (Ok s) = keep s
 
 -- what is kept after an answer: a refusal changes nothing
 abbrev pub kept : Stream → Answer → Stream

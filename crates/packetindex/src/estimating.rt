@@ -1,8 +1,9 @@
 // The estimate of a packet's index: the ROC tried is one less, the same or one more.
 ghost use Rattle.std.specs.Prelude.{◌≡◌};
-ghost use Rattle.packetindex.specs.Estimating.{neighbour_of, roc_tried, index_of, found, estimating, answer_of};
+ghost use Rattle.packetindex.specs.Estimating.{neighbour_of, roc_tried, estimating, answer_of};
 
 use crate::stream::{Stream, index_of};
+use octets::Refusal;
 
 // Half of the sequence numbers.
 const HALF_WAY: u16 = 32768;
@@ -18,18 +19,15 @@ enum Neighbour {
     OneMore,
 }
 
-// What the estimate gives.
-#[derive(Clone, Copy)]
-pub enum Estimated {
-    // Refusal 31: one less than ROC 0.
-    NoSuchIndex,
-    // Refusal 32: one more than the last ROC.
-    KeySpent,
-    // The ROC tried, and the index under it.
-    Index { roc: u32, index: u64 },
+// The ROC tried, and the index under it.
+#[derive(Clone, Copy, Debug, PartialEq, Eq)]
+pub struct Estimate {
+    pub roc: u32,
+    pub index: u64,
 }
 
 // The half-way rule.
+#[tactic(auto, unfolding(crate::specs::Estimating::neighbour_of))]
 fn neighbour_of(highest: u16, sequence: u16) -> Neighbour
     ensures { result ≡ neighbour_of highest sequence }
 {
@@ -48,47 +46,33 @@ fn neighbour_of(highest: u16, sequence: u16) -> Neighbour
     }
 }
 
-// The ROC tried, modulo 2^32.
+// The ROC tried, modulo 2^32: it wraps by a rule of the project (docs/DECISIONS.md, "ROC neighbours"), so that no checked_sub
+// or checked_add tells the refusals.
 fn roc_tried(roc: u32, neighbour: Neighbour) -> u32
     ensures { result ≡ roc_tried roc neighbour }
 {
     match neighbour {
-        Neighbour::OneLess => std::num::wrapping_sub_u32(roc, 1),
+        Neighbour::OneLess => roc.wrapping_sub(1),
         Neighbour::Same => roc,
-        Neighbour::OneMore => std::num::wrapping_add_u32(roc, 1),
+        Neighbour::OneMore => roc.wrapping_add(1),
     }
 }
 
-fn found_under(roc: u32, sequence: u16) -> Estimated
-    ensures { answer_of result ≡ found roc (index_of roc sequence) }
-{
-    Estimated::Index {
-        roc,
-        index: index_of(roc, sequence),
-    }
-}
-
-// The index of the packet with this sequence number, or refusal 31 or 32.
-pub fn estimate(stream: Stream, sequence: u16) -> Estimated
-    ensures { answer_of result ≡ estimating stream sequence }
-{
-    let neighbour = neighbour_of(stream.highest, sequence);
-    let roc = roc_tried(stream.roc, neighbour);
-    match neighbour {
-        Neighbour::OneLess => {
-            if roc == LAST_ROC {
-                Estimated::NoSuchIndex
-            } else {
-                found_under(roc, sequence)
-            }
-        }
-        Neighbour::Same => found_under(roc, sequence),
-        Neighbour::OneMore => {
-            if roc == 0 {
-                Estimated::KeySpent
-            } else {
-                found_under(roc, sequence)
-            }
+impl Stream {
+    // The index of the packet with this sequence number, or refusal 31 or 32.
+    #[tactic(auto, unfolding(crate::specs::Estimating::estimating))]
+    pub fn estimate(self, sequence: u16) -> Result<Estimate, Refusal>
+        ensures { answer_of result ≡ estimating self sequence }
+    {
+        let neighbour = neighbour_of(self.highest, sequence);
+        let roc = roc_tried(self.roc, neighbour);
+        match neighbour {
+            Neighbour::OneLess if roc == LAST_ROC => Err(Refusal::NoSuchIndex),
+            Neighbour::OneMore if roc == 0 => Err(Refusal::KeySpent),
+            _ => Ok(Estimate {
+                roc,
+                index: index_of(roc, sequence),
+            }),
         }
     }
 }

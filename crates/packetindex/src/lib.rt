@@ -5,6 +5,5 @@ mod estimating;
 mod stream;
 mod updating;
 
-pub use estimating::{Estimated, estimate};
+pub use estimating::Estimate;
 pub use stream::Stream;
-pub use updating::{Updated, update};

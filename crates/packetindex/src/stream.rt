@@ -6,15 +6,15 @@ ghost use Rattle.packetindex.specs.Estimating.{index_of};
 const SEQUENCE_COUNT: u64 = 65536;
 
 // The ROC, and the highest sequence number seen under it.
-#[derive(Clone, Copy)]
+#[derive(Clone, Copy, Debug, PartialEq, Eq)]
 pub struct Stream {
     pub roc: u32,
     pub highest: u16,
 }
 
 // The index of a sequence number under a ROC.
-pub fn index_of(roc: u32, sequence: u16) -> u64
+pub(crate) fn index_of(roc: u32, sequence: u16) -> u64
     ensures { result ≡ index_of roc sequence }
 {
-    roc as u64 * SEQUENCE_COUNT + sequence as u64
+    u64::from(roc) * SEQUENCE_COUNT + u64::from(sequence)
 }

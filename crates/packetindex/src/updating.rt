@@ -2,27 +2,18 @@
 ghost use Rattle.std.specs.Prelude.{◌≡◌};
 ghost use Rattle.packetindex.specs.Updating.{later, updating, answer_of};
 
-use crate::estimating::{Estimated, estimate};
+use crate::estimating::Estimate;
 use crate::stream::{Stream, index_of};
-
-// What an update gives. A refused one changes nothing: what was kept stays.
-#[derive(Clone, Copy)]
-pub enum Updated {
-    // Refusal 31, as the estimate's.
-    NoSuchIndex,
-    // Refusal 32, as the estimate's.
-    KeySpent,
-    // What to keep.
-    Keep { stream: Stream },
-}
+use octets::Refusal;
 
 // The packet's ROC and sequence number where its index is higher, else what was kept.
-fn later_of(stream: Stream, sequence: u16, roc: u32, index: u64) -> Stream
-    ensures { result ≡ later stream sequence roc index }
+#[tactic(auto, unfolding(crate::specs::Updating::later))]
+fn later_of(stream: Stream, sequence: u16, packet: Estimate) -> Stream
+    ensures { result ≡ later stream sequence packet.roc packet.index }
 {
-    if index_of(stream.roc, stream.highest) < index {
+    if index_of(stream.roc, stream.highest) < packet.index {
         Stream {
-            roc,
+            roc: packet.roc,
             highest: sequence,
         }
     } else {
@@ -30,16 +21,13 @@ fn later_of(stream: Stream, sequence: u16, roc: u32, index: u64) -> Stream
     }
 }
 
-// What to keep after a packet with this sequence number was accepted, or the estimate's refusal.
-pub fn update(stream: Stream, sequence: u16) -> Updated
-    ensures { answer_of result ≡ updating stream sequence }
-{
-    match estimate(stream, sequence) {
-        Estimated::NoSuchIndex => Updated::NoSuchIndex,
-        Estimated::KeySpent => Updated::KeySpent,
-        Estimated::Index { roc, index } => {
-            let kept = later_of(stream, sequence, roc, index);
-            Updated::Keep { stream: kept }
-        }
+impl Stream {
+    // What to keep after a packet with this sequence number was accepted, or the estimate's refusal: what was kept stays.
+    #[tactic(auto, unfolding(crate::specs::Updating::updating))]
+    pub fn update(self, sequence: u16) -> Result<Stream, Refusal>
+        ensures { answer_of result ≡ updating self sequence }
+    {
+        let packet = self.estimate(sequence)?;
+        Ok(later_of(self, sequence, packet))
     }
 }

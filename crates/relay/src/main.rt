@@ -2,50 +2,38 @@
 // ends (docs/RELAY.md). What an answer is stands in the crate `service`; here octets only move.
 #![tactic(auto)]
 
-ghost use Rattle.std.specs.Prelude.{◌≤◌, ◌≡◌, length};
-ghost use Rattle.service.specs.Limits.{frame_limit};
-
 use anyhow::{Context, Result};
 use distributor::BLOCK;
 use service::{ANSWER, FRAME_LIMIT};
 use std::io::{ErrorKind, Read, Write};
+
+const UNREAD: &str = "a request could not be read";
+
+const UNWRITTEN: &str = "an answer could not be written";
 
 // Fills the octets; false where the input ends before.
 fn fill(input: &mut impl Read, octets: &mut [u8]) -> Result<bool> {
     match input.read_exact(octets) {
         Ok(()) => Ok(true),
         Err(e) if e.kind() == ErrorKind::UnexpectedEof => Ok(false),
-        Err(e) => Err(e).context("a request could not be read"),
+        Err(e) => Err(e).context(UNREAD),
     }
 }
 
-// Reads n octets to the front of the frame; false where the input ends before.
-fn read(input: &mut impl Read, frame: &mut [u8], n: usize) -> Result<bool>
-    requires { n ≤ length frame.old }
-{
-    fill(input, &mut frame[..n])
-}
-
-// Reads n octets in pieces and drops them; false where the input ends before.
-fn skip(input: &mut impl Read, frame: &mut [u8], n: usize) -> Result<bool>
-    requires { length frame.old ≡ frame_limit }
-{
-    let mut left = n;
-    while FRAME_LIMIT < left {
-        if !read(input, frame, FRAME_LIMIT)? {
+// Reads n octets into the room of a request and drops them; false where the input ends before. By `io::copy` they would stand
+// in 8,192 octets of the stack besides: the relay's memory is fixed.
+fn skip(input: &mut impl Read, frame: &mut [u8; FRAME_LIMIT], n: usize) -> Result<bool> {
+    for _ in 0..n / FRAME_LIMIT {
+        if !fill(input, frame)? {
             return Ok(false);
         }
-        left -= FRAME_LIMIT;
     }
-    read(input, frame, left)
+    fill(input, &mut frame[..n % FRAME_LIMIT])
 }
 
-const UNWRITTEN: &str = "an answer could not be written";
-
 // Writes the answer's octets out at once, since a caller may wait for them.
-fn write(output: &mut impl Write, out: &[u8; ANSWER], count: usize) -> Result<()> {
-    let written = output.write_all(octets::part(out, 0, count));
-    written.context(UNWRITTEN)?;
+fn write(output: &mut impl Write, answer: &[u8]) -> Result<()> {
+    output.write_all(answer).context(UNWRITTEN)?;
     output.flush().context(UNWRITTEN)
 }
 
@@ -54,29 +42,26 @@ fn turn(
     input: &mut impl Read,
     output: &mut impl Write,
     state: &mut [u8; BLOCK],
-    frame: &mut [u8],
+    frame: &mut [u8; FRAME_LIMIT],
     out: &mut [u8; ANSWER],
-) -> Result<bool>
-    requires { length frame.old ≡ frame_limit }
-{
+) -> Result<bool> {
     let mut head = [0; 2];
     if !fill(input, &mut head)? {
         return Ok(false);
     }
-    let n = octets::number16(&head, 0) as usize;
-    if FRAME_LIMIT < n {
+    let n = usize::from(u16::from_be_bytes(head));
+    let count = if FRAME_LIMIT < n {
         if !skip(input, frame, n)? {
             return Ok(false);
         }
-        let count = service::too_long(out);
-        write(output, out, count)?;
-        return Ok(true);
-    }
-    if !read(input, frame, n)? {
-        return Ok(false);
-    }
-    let count = service::serve_one(state, octets::part(frame, 0, n), out);
-    write(output, out, count)?;
+        service::too_long(out)
+    } else {
+        if !fill(input, &mut frame[..n])? {
+            return Ok(false);
+        }
+        service::serve_one(state, octets::part(frame, 0, n), out)
+    };
+    write(output, octets::part(out, 0, count))?;
     Ok(true)
 }
 

@@ -49,6 +49,10 @@ module _ (z t x : List ℕ) (i k : ℕ) (room : i + k ≤ length z) (e : x ≡ o
       let g : p ≡ q = rw n at f in
       w ∙ ap (put x i) g ∙ put_whole x i q (omega (arith, length-take k (drop i t))) ∙ more_over
 
+-- the first none of them
+pub none_put : (z t : List ℕ) → z ≡ over z 0 (take 0 t)
+none_put z t = sym (over_none z 0)
+
 -- octets at the front of n zeros
 padded_over : (n : ℕ) (p : List ℕ) → length p ≤ n → over (replicate n 0) 0 p ≡ padded n p
 unfolding padded

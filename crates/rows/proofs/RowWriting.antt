@@ -5,7 +5,7 @@ use mathlib.Core.List.{List, ◌++◌, append_assoc, append-nil}
 use native.Mathlib.Omega.{arith}
 use lib.ListN.{length, take, drop, length-append, take-append-drop, drop_of_length-le, length-take, length-drop}
 use lib.Seq.{drop-drop}
-use Rattle.octets.specs.Number.{octets16, octets_of_16, octets_of_32}
+use Rattle.octets.specs.Number.{octets16, octets_of_16}
 use Rattle.octets.specs.Part.{part}
 use Rattle.octets.specs.Write.{put}
 use Rattle.octets.proofs.WriteLaws.{Wrote, end_whole, wrote_more}
@@ -47,16 +47,9 @@ wrote_all {l} {p} {x} {at} w e =
     let h : length l ≤ length p = omega (arith, w.offset) in
     w.output ∙ rw (drop_of_length-le l h) (append-nil p)
 
--- ---- numbers of 16 and 32 bits, as they are written
+-- ---- numbers of 16 bits, as they are written
 
 pub octets_of_16_lem : (n : ℕ) → n < 65536 → octets16 n ≡ octets_of_16 n
 octets_of_16_lem n h =
     let e : n / 256 % 256 ≡ n / 256 = omega arith in
     rw e
-
-pub octets_of_32_lem : (n : ℕ) → n < 4294967296 → octets16 (n / 65536) ++ octets16 (n % 65536) ≡ octets_of_32 n
-octets_of_32_lem n h =
-    let a : n / 65536 / 256 % 256 ≡ n / 16777216 = omega arith in
-    let b : n % 65536 / 256 % 256 ≡ n / 256 % 256 = omega arith in
-    let c : n % 65536 % 256 ≡ n % 256 = omega arith in
-    rw (a, b, c)

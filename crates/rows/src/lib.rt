@@ -5,9 +5,11 @@ mod arrays;
 pub mod layout;
 mod padding;
 mod row;
+mod state;
 mod writing;
 
-pub use arrays::{array16, array32};
+pub use arrays::array;
 pub use padding::put_padded;
-pub use row::{endpoint_of, is_live, is_named};
-pub use writing::{key_row, open_row};
+pub use row::{endpoint_of, is_live, is_named, state_of};
+pub use state::State;
+pub use writing::{ReadKeys, key_row, open_row};

@@ -2,27 +2,35 @@
 ghost use Rattle.std.specs.Prelude.{◌≡◌, ◌+◌, ◌≤◌, length};
 ghost use Rattle.octets.specs.Bounds.{part_in};
 ghost use Rattle.octets.specs.Write.{over};
-ghost use Rattle.rules.specs.Keys.{keys_in};
 ghost use Rattle.rules.specs.Layout as Spec;
 ghost use Rattle.rows.specs.Lent.{on_row};
+ghost use Rattle.rows.specs.ReadKeys.{keys_read};
 
 use crate::layout::{
     CLIENT_KEY, CLIENT_SALT, ENDPOINT, IDENTIFIER, KEY_LIMIT, MKI, PROFILE, ROW, SERVER_KEY,
     SERVER_SALT, STATE,
 };
 use crate::padding::{pad, put_field};
+use crate::state::State;
 use message::KeyLengths;
 use message::limits::{MKI_LIMIT, SALT_LIMIT, WIDTH};
 use octets::Bounds;
+
+// The key fields of a MediaKeys that was read at the front of octets.
+#[derive(Clone, Copy)]
+pub struct ReadKeys<'a> {
+    pub octets: &'a [u8],
+    pub profile: u16,
+    pub lengths: KeyLengths,
+}
 
 fn write_open(row: &mut [u8], identifier: &[u8], endpoint: u32)
     requires { length row.old ≡ Spec.row_length }
     ensures { row.new ≡ Spec.open_row identifier.now endpoint }
 {
-    octets::put_number16(row, ENDPOINT, (endpoint / 65536) as u16);
-    octets::put_number16(row, ENDPOINT + 2, (endpoint % 65536) as u16);
+    octets::put_octets(row, ENDPOINT, &endpoint.to_be_bytes());
     pad(row, IDENTIFIER, WIDTH, identifier);
-    octets::put_octet(row, STATE, 1);
+    octets::put_octet(row, STATE, State::Open as u8);
     pad(row, PROFILE, ROW - PROFILE, b"");
 }
 
@@ -34,13 +42,14 @@ fn put_part(row: &mut [u8], at: usize, limit: usize, s: &[u8], b: Bounds)
     put_field(row, at, limit, octets::part_in(s, b));
 }
 
-fn write_keys(row: &mut [u8], s: &[u8], profile: u16, lengths: KeyLengths)
+fn write_keys(row: &mut [u8], keys: ReadKeys<'_>)
     requires { length row.old ≡ Spec.row_length }
-    ensures { row.new ≡ Spec.keyed_row (keys_in s.now profile lengths) row.old }
+    ensures { row.new ≡ Spec.keyed_row (keys_read keys.entry) row.old }
 {
-    let k = message::key_bounds(lengths);
-    octets::put_octet(row, STATE, 2);
-    octets::put_number16(row, PROFILE, profile);
+    let s = keys.octets;
+    let k = keys.lengths.bounds();
+    octets::put_octet(row, STATE, State::Keyed as u8);
+    octets::put_number16(row, PROFILE, keys.profile);
     put_part(row, MKI, MKI_LIMIT as usize, s, k.mki);
     put_part(row, CLIENT_KEY, KEY_LIMIT, s, k.client_key);
     put_part(row, SERVER_KEY, KEY_LIMIT, s, k.server_key);
@@ -57,11 +66,11 @@ pub fn open_row(row: &mut [u8], identifier: &[u8], endpoint: u32)
     }
 }
 
-// All key fields of the row are replaced by those of a message at the front of s.
-pub fn key_row(row: &mut [u8], s: &[u8], profile: u16, lengths: KeyLengths)
-    ensures { row.new ≡ on_row row.old (Spec.keyed_row (keys_in s.now profile lengths) row.old) }
+// All key fields of the row are replaced by those of a message that was read.
+pub fn key_row(row: &mut [u8], keys: ReadKeys<'_>)
+    ensures { row.new ≡ on_row row.old (Spec.keyed_row (keys_read keys.entry) row.old) }
 {
     if row.len() == ROW {
-        write_keys(row, s, profile, lengths);
+        write_keys(row, keys);
     }
 }

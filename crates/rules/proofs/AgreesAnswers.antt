@@ -17,7 +17,7 @@ use Rattle.message.specs.Profiles.{good_list, in_list, keys_fit, mki_and_salts_f
 use Rattle.message.specs.Read as Read
 use Rattle.message.specs.declared.bodies.Fields.{Fields}
 use Rattle.message.specs.declared.bodies.Fields.TheVariants.{SupportedProfiles, UnsupportedVersion, MediaKeys, TunneledDtls, EndpointDisconnect}
-use Rattle.message.specs.declared.bodies.KeyLengths.{KeyLengths}
+use Rattle.message.specs.Keys.{KeyLengths}
 use Rattle.rules.specs.Search as Search
 use Rattle.rules.specs.Tunnel.{is_up, list_in}
 use Rattle.rules.specs.Call as Call

@@ -14,7 +14,7 @@ use Rattle.message.specs.Profiles.{in_list, keys_fit, mki_and_salts_fit}
 use Rattle.message.specs.Read as Read
 use Rattle.message.specs.declared.bodies.Fields.{Fields}
 use Rattle.message.specs.declared.bodies.Fields.TheVariants.{SupportedProfiles, UnsupportedVersion, MediaKeys, TunneledDtls, EndpointDisconnect}
-use Rattle.message.specs.declared.bodies.KeyLengths.{KeyLengths}
+use Rattle.message.specs.Keys.{KeyLengths}
 use Rattle.rules.specs.Keys.{keys_in}
 use Rattle.rules.specs.Tunnel.{down, is_up, list_in}
 use Rattle.rules.specs.Call as Call

@@ -5,7 +5,7 @@ use mathlib.Core.Bool.{not}
 use mathlib.Core.List.{List}
 use Rattle.message.specs.Message.{endpoint_disconnect}
 use Rattle.message.specs.Profiles.{in_list, keys_fit, mki_and_salts_fit}
-use Rattle.message.specs.declared.bodies.KeyLengths.{KeyLengths}
+use Rattle.message.specs.Keys.{KeyLengths}
 use Rattle.rules.specs.Tunnel.{is_up, list_in}
 use Rattle.rules.specs.Refusals.{wrong_width, no_room}
 use Rattle.rules.specs.View.{View}

@@ -6,7 +6,7 @@ use Rattle.octets.specs.Bounds.{part_in}
 use Rattle.message.specs.Message.{media_keys}
 use Rattle.message.specs.Parts.{identifier_bounds, meaning}
 use Rattle.message.specs.declared.bodies.Fields.TheVariants.{MediaKeys}
-use Rattle.message.specs.declared.bodies.KeyLengths.{KeyLengths}
+use Rattle.message.specs.Keys.{KeyLengths}
 use Rattle.rules.specs.Keys.{keys_in}
 
 pub keys_mean : (s : List ℕ) (profile : ℕ) (k : KeyLengths)

@@ -11,7 +11,7 @@ use Rattle.octets.specs.Part.{part}
 use Rattle.octets.proofs.Tests.{both, by_choice}
 use Rattle.message.specs.Limits.{mki_limit, salt_limit}
 use Rattle.message.specs.Profiles.{key_length, keys_fit, mki_and_salts_fit}
-use Rattle.message.specs.declared.bodies.KeyLengths.{KeyLengths}
+use Rattle.message.specs.Keys.{KeyLengths}
 use Rattle.rules.specs.Limits.{key_limit}
 use Rattle.rules.specs.Keys.{keys_in}
 use Rattle.rules.proofs.RowLaws.{Roomy}

@@ -12,7 +12,7 @@ use Rattle.message.specs.Body as Body
 use Rattle.message.specs.Read as Read
 use Rattle.message.specs.Parts.{identifier_bounds}
 use Rattle.message.specs.declared.bodies.Fields.TheVariants.{MediaKeys}
-use Rattle.message.specs.declared.bodies.KeyLengths.{KeyLengths}
+use Rattle.message.specs.Keys.{KeyLengths}
 use Rattle.rules.specs.Refusals.{receiving}
 use Rattle.rules.specs.Reaching.{identifier_for, keys_for}
 

@@ -21,7 +21,7 @@ use Rattle.message.specs.Read as Read
 use Rattle.message.specs.Read.{body_answer, frame_answer, reading}
 use Rattle.message.specs.Taken.{OfOther, WholeAt, IsUnlisted}
 use Rattle.message.specs.declared.framing.Kind.{Kind}
-use Rattle.message.specs.declared.bodies.KeyLengths.{KeyLengths}
+use Rattle.message.specs.Keys.{KeyLengths}
 use Rattle.message.specs.declared.bodies.Fields.TheVariants.{UnsupportedVersion, MediaKeys, TunneledDtls, EndpointDisconnect}
 use Rattle.message.proofs.BodyCases.{keys_body, dtls_body, disconnect_body}
 use Rattle.message.proofs.Encoded.{body_length}

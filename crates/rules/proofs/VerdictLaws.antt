@@ -6,7 +6,7 @@ use mathlib.Core.List.{List}
 use lib.Dec.{eqb}
 use native.Mathlib.Omega.{arith}
 use Rattle.message.specs.Profiles.{in_list, keys_fit, mki_and_salts_fit}
-use Rattle.message.specs.declared.bodies.KeyLengths.{KeyLengths}
+use Rattle.message.specs.Keys.{KeyLengths}
 use Rattle.rules.specs.Layout.{list_of}
 use Rattle.rules.specs.Verdict.{Verdict, allowed, refusal, refuse}
 use Rattle.rules.specs.Answer.{Answer, answered}

@@ -12,7 +12,7 @@ use Rattle.message.specs.Parts.{identifier_bounds}
 use Rattle.message.specs.Read as Read
 use Rattle.message.specs.declared.bodies.Fields.{Fields}
 use Rattle.message.specs.declared.bodies.Fields.TheVariants.{SupportedProfiles, UnsupportedVersion, MediaKeys, TunneledDtls, EndpointDisconnect}
-use Rattle.message.specs.declared.bodies.KeyLengths.{KeyLengths}
+use Rattle.message.specs.Keys.{KeyLengths}
 use Rattle.rules.specs.Limits.{places}
 use Rattle.rules.specs.Keys.{Keys, keys_in}
 use Rattle.rules.specs.Call.{Call, start, opening, booth_packet, tunnel_octets, close, end, look, write_page}

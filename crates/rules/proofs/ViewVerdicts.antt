@@ -8,7 +8,7 @@ use lib.ListN.{length}
 use Rattle.message.specs.Limits.{width}
 use Rattle.message.specs.Message.{tunneled_dtls}
 use Rattle.message.specs.Profiles.{good_list, in_list, keys_fit, mki_and_salts_fit}
-use Rattle.message.specs.declared.bodies.KeyLengths.{KeyLengths}
+use Rattle.message.specs.Keys.{KeyLengths}
 use Rattle.rules.specs.Layout.{up, list_of, row_of}
 use Rattle.rules.specs.Verdict.{allowed}
 use Rattle.rules.specs.Orders.{packet_order}

@@ -2,7 +2,7 @@
 use Rattle.std.specs.Prelude.{ℕ, List}
 use Rattle.octets.specs.Bounds.{part_in}
 use Rattle.message.specs.Parts.{key_bounds}
-use Rattle.message.specs.declared.bodies.KeyLengths.{KeyLengths}
+use Rattle.message.specs.Keys.{KeyLengths}
 
 pub record Keys : Type 0 where
   pub profile : ℕ

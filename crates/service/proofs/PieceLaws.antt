@@ -5,7 +5,7 @@ use mathlib.Core.List.{List, ◌++◌}
 use native.Mathlib.Omega.{arith}
 use lib.ListN.{length, length-append}
 use Rattle.octets.specs.Write.{over, put, put_end}
-use Rattle.octets.proofs.WriteLaws.{put_put, put_whole, end_whole, over_over}
+use Rattle.octets.proofs.WriteLaws.{put_whole, end_whole, over_over}
 use Rattle.service.specs.Reply.{Replies}
 
 -- where a piece ends, and what the output is: as a total function says it, and where it is written whole
@@ -26,20 +26,6 @@ module _ (l : List ℕ) (at : ℕ) where
         omega (arith, o.0, n.0),
         n.1 ∙ ap₂ (λ (z : List ℕ) (i : ℕ). over z i q) o.1 o.0 ∙ over_over l p q at h,
       )
-
-  -- two, and three
-  pub two : (p q : List ℕ) {x y : List ℕ} {i j : ℕ} → at + (length p + length q) ≤ length l → Put l at p x i → Put x i q y j → Over l at (p ++ q) y j
-  two p q h a b =
-      let e : length (p ++ q) ≡ length p + length q = length-append p q in
-      whole (p ++ q) (omega arith) (put_put l p q at (omega arith) a.0 a.1 b.0 b.1)
-
-  pub three : (p q r : List ℕ) {x y z : List ℕ} {i j k : ℕ} → at + (length p + length q + length r) ≤ length l
-      → Put l at p x i → Put x i q y j → Put y j r z k → Over l at ((p ++ q) ++ r) z k
-  three p q r h a b c =
-      let e : length (p ++ q) ≡ length p + length q = length-append p q in
-      let f : length ((p ++ q) ++ r) ≡ length p + length q + length r = length-append (p ++ q) r ∙ omega arith in
-      let w = put_put l p q at (omega arith) a.0 a.1 b.0 b.1 in
-      whole ((p ++ q) ++ r) (omega arith) (put_put l (p ++ q) r at (omega arith) w.0 w.1 c.0 c.1)
 
 -- from the front
 pub from_front : (l q : List ℕ) {x : List ℕ} {to : ℕ} → Over l 0 q x to → Replies q l x to

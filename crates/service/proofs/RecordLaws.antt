@@ -1,106 +1,89 @@
 -- A record written in pieces.
-use Prim.Native.Nat.{ℕ, zero, suc, ◌+◌, ◌-◌, ◌*◌, ◌≤◌}
+use Prim.Native.Nat.{ℕ, ◌+◌, ◌-◌, ◌≤◌}
 use mathlib.Core.Path.{◌≡◌, refl, sym, ap, subst, ◌∙◌}
-use mathlib.Core.Bool.{Bool, true, false, cond}
 use mathlib.Core.List.{List, [], ◌∷◌, ◌++◌, append_assoc}
 use native.Mathlib.Omega.{arith}
 use lib.ListN.{length, take, replicate, length-append, length-take, length-replicate}
 use lib.Seq.{take-append-add}
-use mir.Val.{bool_byte}
+use Rattle.std.specs.Prelude.{Option}
+use Rattle.std.proofs.lemmas.List.{drop-replicate, take-replicate}
 use Rattle.octets.specs.Number.{octets16, octets_of_32}
 use Rattle.octets.specs.Part.{part}
 use Rattle.octets.specs.Write.{over}
 use Rattle.octets.proofs.PartLaws.{part_front}
-use Rattle.message.specs.Limits.{width, mki_limit}
-use Rattle.rules.specs.Answer.{opened, keyed, found}
+use Rattle.octets.proofs.WriteLaws.{put_put, over_length}
+use Rattle.message.specs.Limits.{width, mki_limit, salt_limit}
+use Rattle.rules.specs.Answer.{found}
 use Rattle.rules.specs.Keys.{Keys}
 use Rattle.rules.specs.Layout.{padded, field}
 use Rattle.rules.specs.Limits.{key_limit}
 use Rattle.rules.proofs.FieldLaws.{padded_length, field_length}
-use Rattle.service.specs.Limits.{keys_length, record_length}
-use Rattle.distributor.specs.Record.{keys_read, association_in}
-use Rattle.distributor.specs.declared.looking.Record.{Record}
-use Rattle.service.specs.Reply.{Replies, frame_of, keys_octets, no_keys_octets, answer_octets}
-use Rattle.service.proofs.PieceLaws.{Put, Over, whole, more, two, from_front}
+use Rattle.distributor.specs.Record.{association_with}
+use Rattle.distributor.specs.declared.looking.RecordKeys.{RecordKeys}
+use Rattle.service.specs.Limits.{head_length, endpoint_length, keys_length, record_length}
+use Rattle.service.specs.Reply.{Replies, frame_of, keys_octets, answer_octets}
 use Rattle.service.proofs.FrameLaws.{framed}
+use Rattle.service.proofs.PieceLaws.{Put, Over, whole, more, from_front}
 
 -- ---- a field: its length, its octets, zeros
 
 -- the octets that the length says
-module _ (s : List ℕ) (n : ℕ) where
-  pub front_short : length (part s 0 n) ≤ n
-  front_short = rw (part_front s n, length-take n s) (omega arith)
+pub front_short : (s : List ℕ) (n : ℕ) → length (part s 0 n) ≤ n
+front_short s n = rw (part_front s n, length-take n s) (omega arith)
 
-  pub front_within : length (part s 0 n) ≤ length s
-  front_within = rw (part_front s n, length-take n s) (omega arith)
+front_within : (s : List ℕ) (n : ℕ) → length (part s 0 n) ≤ length s
+front_within s n = rw (part_front s n, length-take n s) (omega arith)
 
-zeros : (k m : ℕ) → k ≤ m → take {A = ℕ} k (replicate m 0) ≡ replicate k 0
-zeros zero m h = refl
-zeros (suc k) zero h = absurd (omega arith)
-zeros (suc k) (suc m) h = ap (λ (l : List ℕ). 0 ∷ l) (zeros k m (omega arith))
-
-padded_out : (x : List ℕ) (limit : ℕ) → length x ≤ limit → limit ≤ key_limit
-    → x ++ part (replicate key_limit 0) 0 (limit - length x) ≡ padded limit x
+-- written over zeros
+pub padded_out : (n : ℕ) (x : List ℕ) → length x ≤ n → over (replicate n 0) 0 x ≡ padded n x
 unfolding padded
-padded_out x limit h k =
-    let e : length x + (limit - length x) ≡ limit = omega arith in
-    ap (λ (l : List ℕ). x ++ l) (part_front (replicate key_limit 0) (limit - length x) ∙ zeros (limit - length x) key_limit (omega arith) ∙ sym (zeros (limit - length x) limit (omega arith)))
-    ∙ sym (take-append-add x (replicate limit 0) (limit - length x))
-    ∙ ap (λ (n : ℕ). take n (x ++ replicate limit 0)) e
+padded_out n x h =
+    let e : length x + (n - length x) ≡ n = omega arith in
+    let z : 0 + length x ≡ length x = omega arith in
+    rw (z, drop-replicate {X = ℕ} (length x) n 0)
+    (sym
+    (ap (λ (k : ℕ). take k (x ++ replicate n 0)) (sym e) ∙ take-append-add x (replicate n 0) (n - length x)
+    ∙ ap (λ (r : List ℕ). x ++ r) (take-replicate {X = ℕ} (n - length x) n 0 (omega arith))))
 
-module _ (l : List ℕ) (at limit : ℕ) where
-  pub padded_done : (s : List ℕ) {zs x y : List ℕ} {i to : ℕ} → length s ≤ limit → limit ≤ key_limit → at + limit ≤ length l
-      → zs ≡ part (replicate key_limit 0) 0 (limit - length s) → Put l at s x i → Put x i zs y to
-      → (to ≡ at + limit) × (y ≡ over l at (padded limit s))
-  padded_done s {zs} short lim room q a b =
-      let f : s ++ zs ≡ padded limit s = ap (λ (r : List ℕ). s ++ r) q ∙ padded_out s limit short lim in
-      let g : length (s ++ zs) ≡ limit = ap length f ∙ padded_length limit s in
-      let h : length (s ++ zs) ≡ length s + length zs = length-append s zs in
-      let w = two l at s zs (omega arith) a b in
-      (w.0 ∙ omega arith, w.1 ∙ ap (over l at) f)
+-- so many octets of a field, from an offset on
+abbrev pub Fielded : (l : List ℕ) (at limit : ℕ) (x y : List ℕ) (to : ℕ) → Type 0
+Fielded l at limit x y to = (to ≡ at + 1 + limit) × (y ≡ over l at (field limit x))
 
-  pub field_done : (f : List ℕ) (n : ℕ) {s x y : List ℕ} {i to : ℕ} → at + 1 + limit ≤ length l → s ≡ part f 0 n → Put l at (length s ∷ []) x i
-      → (to ≡ i + limit) × (y ≡ over x i (padded limit s)) → (to ≡ at + 1 + limit) × (y ≡ over l at (field limit (take n f)))
-  field_done f n {s} {x} {y} {i} {to} room p a b =
-      let o = whole l at (length s ∷ []) (omega arith) a in
-      let e : Over x i (padded limit s) y to = (b.0 ∙ omega (arith, padded_length limit s), b.1) in
-      (omega (arith, o.0, b.0), (more l at (length s ∷ []) (padded limit s) (omega arith) o e).1 ∙ ap (λ (r : List ℕ). over l at (field limit r)) (p ∙ part_front f n))
+pub field_done : (l : List ℕ) (at limit : ℕ) (f : List ℕ) (n : ℕ) {s q x y : List ℕ} {i j to : ℕ} → at + 1 + limit ≤ length l → length f ≡ limit → s ≡ part f 0 n
+    → Put (replicate limit 0) 0 s q i → Put l at (length s ∷ []) x j → Put x j q y to → Fielded l at limit (take n f) y to
+field_done l at limit f n {s} {q} {x} {y} {i} {j} {to} room e p a b c =
+    let h : length s ≤ limit = rw p (rw (← e) (front_within f n)) in
+    let k : 0 + length s ≤ length (replicate {A = ℕ} limit 0) = omega (arith, length-replicate {A = ℕ} limit 0) in
+    let z : q ≡ padded limit s = (whole (replicate limit 0) 0 s k a).1 ∙ padded_out limit s h in
+    let m : length q ≡ limit = ap length z ∙ padded_length limit s in
+    let w = whole l at (length s ∷ q) (omega arith) (put_put l (length s ∷ []) q at (omega arith) b.0 b.1 c.0 c.1) in
+    (w.0 ∙ omega arith, w.1 ∙ ap (λ (r : List ℕ). over l at (length s ∷ r)) z ∙ ap (λ (r : List ℕ). over l at (field limit r)) (p ∙ part_front f n))
 
 -- its end by its length
-pub fielded : (l : List ℕ) (at limit : ℕ) (x : List ℕ) {y : List ℕ} {to : ℕ} → (to ≡ at + 1 + limit) × (y ≡ over l at (field limit x)) → Over l at (field limit x) y to
+fielded : (l : List ℕ) (at limit : ℕ) (x : List ℕ) {y : List ℕ} {to : ℕ} → Fielded l at limit x y to → Over l at (field limit x) y to
 fielded l at limit x o = (o.0 ∙ omega (arith, field_length limit x), o.1)
 
 -- ---- the key fields
 
-pair_length : (x y : List ℕ) → length (field key_limit x ++ field key_limit y) ≡ 2 * (1 + key_limit)
-pair_length x y = length-append (field key_limit x) (field key_limit y) ∙ omega (arith, field_length key_limit x, field_length key_limit y)
-
-pub paired : (l : List ℕ) (at : ℕ) (x y : List ℕ) {z : List ℕ} {to : ℕ} → (to ≡ at + 2 * (1 + key_limit)) × (z ≡ over l at (field key_limit x ++ field key_limit y))
-    → Over l at (field key_limit x ++ field key_limit y) z to
-paired l at x y o = (o.0 ∙ omega (arith, pair_length x y), o.1)
-
-pub profile_done : (l : List ℕ) (at n : ℕ) (x : List ℕ) {w y : List ℕ} {i to : ℕ} → at + 2 + 1 + mki_limit ≤ length l → Put l at (octets16 n) w i
-    → (to ≡ at + 2 + 1 + mki_limit) × (y ≡ over w (at + 2) (field mki_limit x))
-    → (to ≡ at + 2 + 1 + mki_limit) × (y ≡ over l at (octets16 n ++ field mki_limit x))
-profile_done l at n x {w} room p m =
-    let a : Over l at (octets16 n) w (at + 2) = (refl, (whole l at (octets16 n) (omega arith) p).1) in
-    (m.0, (more l at _ _ (omega arith) a (fielded w (at + 2) mki_limit x m)).1)
-
-regroup : (a b c d e f : List ℕ) → ((a ++ b) ++ (c ++ d)) ++ (e ++ f) ≡ a ++ b ++ c ++ d ++ e ++ f
+regroup : (a b c d e f : List ℕ) → ((((a ++ b) ++ c) ++ d) ++ e) ++ f ≡ a ++ b ++ c ++ d ++ e ++ f
 regroup a b c d e f = simp append_assoc
 
 module _ (l : List ℕ) (at : ℕ) (k : Keys) (room : at + keys_length ≤ length l) where
-  pub keys_done : {x y z : List ℕ} {keys salts to : ℕ}
-      → (keys ≡ at + 2 + 1 + mki_limit) × (x ≡ over l at (octets16 k.profile ++ field mki_limit k.mki))
-      → (salts ≡ keys + 2 * (1 + key_limit)) × (y ≡ over x keys (field key_limit k.client_key ++ field key_limit k.server_key))
-      → (to ≡ salts + 2 * (1 + key_limit)) × (z ≡ over y salts (field key_limit k.client_salt ++ field key_limit k.server_salt))
-      → (to ≡ at + keys_length) × (z ≡ over l at (keys_octets k))
-  keys_done {x} {y} {z} {keys} {salts} {to} m c s =
+  pub keys_done : {x0 x1 x2 x3 x4 x5 : List ℕ} {a0 a1 a2 a3 a4 a5 : ℕ} → Put l at (octets16 k.profile) x0 a0
+      → Fielded x0 (at + 2) mki_limit k.mki x1 a1 → Fielded x1 a1 key_limit k.client_key x2 a2 → Fielded x2 a2 key_limit k.server_key x3 a3
+      → Fielded x3 a3 salt_limit k.client_salt x4 a4 → Fielded x4 a4 salt_limit k.server_salt x5 a5
+      → (a5 ≡ at + keys_length) × (x5 ≡ over l at (keys_octets k))
+  keys_done {x0} {x1} {x2} {x3} {x4} {x5} {a0} {a1} {a2} {a3} {a4} {a5} p m c s d e =
       let h : at ≤ length l = omega arith in
-      let b : Over l at (octets16 k.profile ++ field mki_limit k.mki) x keys = (m.0 ∙ omega (arith, field_length mki_limit k.mki), m.1) in
-      let d = more l at _ _ h b (paired x keys k.client_key k.server_key c) in
-      let e = more l at _ _ h d (paired y salts k.client_salt k.server_salt s) in
-      (omega (arith, m.0, c.0, s.0), e.1 ∙ ap (over l at) (regroup (octets16 k.profile) (field mki_limit k.mki) (field key_limit k.client_key) (field key_limit k.server_key) (field key_limit k.client_salt) (field key_limit k.server_salt)))
+      let o : Over l at (octets16 k.profile) x0 (at + 2) = (refl, (whole l at (octets16 k.profile) (omega arith) p).1) in
+      let o1 = more l at _ _ h o (fielded x0 (at + 2) mki_limit k.mki m) in
+      let o2 = more l at _ _ h o1 (fielded x1 a1 key_limit k.client_key c) in
+      let o3 = more l at _ _ h o2 (fielded x2 a2 key_limit k.server_key s) in
+      let o4 = more l at _ _ h o3 (fielded x3 a3 salt_limit k.client_salt d) in
+      let o5 = more l at _ _ h o4 (fielded x4 a4 salt_limit k.server_salt e) in (
+        omega (arith, m.0, c.0, s.0, d.0, e.0),
+        o5.1 ∙ ap (over l at) (regroup (octets16 k.profile) (field mki_limit k.mki) (field key_limit k.client_key) (field key_limit k.server_key) (field salt_limit k.client_salt) (field salt_limit k.server_salt)),
+      )
 
 pub keys_length_lem : (k : Keys) → length (keys_octets k) ≡ keys_length
 keys_length_lem k =
@@ -109,43 +92,38 @@ keys_length_lem k =
 
 -- ---- the whole answer
 
+-- the head and the kind; then the state, the identifier and the endpoint
+abbrev front : (state : ℕ) (i e : List ℕ) → List ℕ
+front state i e = (octets16 (1 + record_length) ++ 5 ∷ []) ++ ((state ∷ []) ++ i) ++ e
+
+pub front_done : (l : List ℕ) (state : ℕ) (i e : List ℕ) {f w x y z : List ℕ} {a b to : ℕ} → length i ≡ width → length e ≡ endpoint_length → f ≡ e → head_length + 1 + width + endpoint_length ≤ length l
+    → w ≡ over l 0 (octets16 (1 + record_length) ++ 5 ∷ []) → Put w head_length (state ∷ []) x a → Put x a i y b → Put y b f z to
+    → (to ≡ head_length + 1 + width + endpoint_length) × (z ≡ over l 0 (front state i e))
+front_done l state i e {f} {w} {x} {y} {z} {a} {b} {to} h k g room o p q r0 =
+    let r = subst (λ (s : List ℕ). Put y b s z to) g r0 in
+    let head : List ℕ = octets16 (1 + record_length) ++ 5 ∷ [] in
+    let n : length w ≡ length l = ap length o ∙ over_length l 0 head (omega arith) in
+    let c : length ((state ∷ []) ++ i) ≡ 1 + width = omega arith in
+    let d : length (((state ∷ []) ++ i) ++ e) ≡ 1 + width + endpoint_length = length-append ((state ∷ []) ++ i) e ∙ omega arith in
+    let s = put_put w (state ∷ []) i head_length (omega arith) p.0 p.1 q.0 q.1 in
+    let t = whole w head_length (((state ∷ []) ++ i) ++ e) (omega arith) (put_put w ((state ∷ []) ++ i) e head_length (omega arith) s.0 s.1 r.0 r.1) in
+    let u : Over l 0 head w head_length = (refl, o) in
+    let v = more l 0 head (((state ∷ []) ++ i) ++ e) (omega arith) u t in
+    (t.0 ∙ omega arith, v.1)
+
 pub record_done : (l i t : List ℕ) (state e : ℕ) {x y : List ℕ} {at to : ℕ} → length i ≡ width → length t ≡ keys_length
-    → (at ≡ 8 + width) × (x ≡ over l 0 ((0 ∷ 173 ∷ 5 ∷ state ∷ i) ++ octets_of_32 e))
-    → Over x at t y to
+    → (at ≡ head_length + 1 + width + endpoint_length) × (x ≡ over l 0 (front state i (octets_of_32 e)))
+    → (to ≡ at + keys_length) × (y ≡ over x at t)
     → Replies (frame_of (5 ∷ (state ∷ i) ++ octets_of_32 e ++ t)) l y to
 record_done l i t state e {x} {y} {at} {to} h k a b =
     let p : List ℕ = 0 ∷ 173 ∷ 5 ∷ state ∷ i in
     let f : length (p ++ octets_of_32 e) ≡ 8 + width = length-append p (octets_of_32 e) ∙ omega arith in
     let o : Over l 0 (p ++ octets_of_32 e) x at = (a.0 ∙ omega arith, a.1) in
-    let w = from_front l ((p ++ octets_of_32 e) ++ t) (more l 0 (p ++ octets_of_32 e) t (omega arith) o b) in
+    let w = from_front l ((p ++ octets_of_32 e) ++ t) (more l 0 (p ++ octets_of_32 e) t (omega arith) o (b.0 ∙ omega arith, b.1)) in
     let n : 1 + record_length ≡ length (5 ∷ (state ∷ i) ++ octets_of_32 e ++ t) = omega (arith, length-append (p ++ octets_of_32 e) t) in
     framed l (5 ∷ (state ∷ i) ++ octets_of_32 e ++ t) (1 + record_length) n w
 
--- the key fields, or as many zeros
-rest_length : (b : Bool) (k : Keys) → length (cond b (keys_octets k) no_keys_octets) ≡ keys_length
-rest_length true k = keys_length_lem k
-rest_length false k = length-replicate {A = ℕ} keys_length 0
-
--- its state
-pub state_is : (b : Bool) → 1 + bool_byte b ≡ cond b 2 1
-state_is true = refl
-state_is false = refl
-
-pub state_small : (b : Bool) → 1 + bool_byte b ≤ 2
-state_small true = omega arith
-state_small false = omega arith
-
-by_state : (b : Bool) (i : List ℕ) (e : ℕ) (k : Keys)
-    → 5 ∷ (cond b 2 1 ∷ i) ++ octets_of_32 e ++ cond b (keys_octets k) no_keys_octets ≡ answer_octets [] (found (cond b (keyed i e k) (opened i e)))
-by_state true i e k = refl
-by_state false i e k = refl
-
-pub found_done : (l : List ℕ) (r : Record) → length r.identifier ≡ width → {x y : List ℕ} {at to : ℕ}
-    → (at ≡ 8 + width) × (x ≡ over l 0 ((0 ∷ 173 ∷ 5 ∷ cond r.keyed 2 1 ∷ r.identifier) ++ octets_of_32 r.endpoint))
-    → (to ≡ at + keys_length) × (y ≡ over x at (cond r.keyed (keys_octets (keys_read r.keys)) no_keys_octets))
-    → Replies (frame_of (answer_octets [] (found (association_in r)))) l y to
-found_done l r h {x} {y} {at} {to} a b =
-    let rest = cond r.keyed (keys_octets (keys_read r.keys)) no_keys_octets in
-    let k = rest_length r.keyed (keys_read r.keys) in
-    subst (λ (f : List ℕ). Replies (frame_of f) l y to) (by_state r.keyed r.identifier r.endpoint (keys_read r.keys))
-    (record_done l r.identifier rest (cond r.keyed 2 1) r.endpoint h k a (b.0 ∙ omega arith, b.1))
+-- of the same keys, if any
+pub found_with : (l i : List ℕ) (e : ℕ) {j : Option RecordKeys} (k : Option RecordKeys) {x : List ℕ} {to : ℕ} → j ≡ k
+    → Replies (frame_of (answer_octets [] (found (association_with i e k)))) l x to → Replies (frame_of (answer_octets [] (found (association_with i e j)))) l x to
+found_with l i e k {x} {to} h o = subst (λ (m : Option RecordKeys). Replies (frame_of (answer_octets [] (found (association_with i e m)))) l x to) (sym h) o

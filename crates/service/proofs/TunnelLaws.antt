@@ -1,14 +1,10 @@
 -- What Tunnel octets answers: a delivery fits a frame.
 use Prim.Native.Nat.{ℕ, ◌+◌, ◌-◌, ◌≤◌}
 use mathlib.Core.Path.{◌≡◌, refl, sym, subst}
-use mathlib.Core.Bool.{Bool, true, false, cond}
-use mathlib.Core.List.{List, ◌∷◌, ◌++◌}
-use mathlib.Core.Option.{some, none, some-injective, none-ne-some}
+use mathlib.Core.List.{List}
 use native.Mathlib.Omega.{arith}
-use lib.Dec.{eqb}
 use lib.ListN.{length, drop, length-take, length-drop}
 use Rattle.octets.specs.Bounds.{part_in}
-use Rattle.octets.specs.Number.{octets16, octets_of_32}
 use Rattle.octets.specs.Part.{part}
 use Rattle.octets.specs.declared.parts.Bounds.{Bounds}
 use Rattle.octets.proofs.Tests.{by_choice}
@@ -19,13 +15,10 @@ use Rattle.message.specs.declared.bodies.Fields.{Fields}
 use Rattle.message.specs.declared.bodies.Fields.TheVariants.{SupportedProfiles, UnsupportedVersion, MediaKeys, TunneledDtls, EndpointDisconnect}
 use Rattle.rules.specs.Answer.{Answer, refused, keys_stored, delivery, removed, of_delivery, answered}
 use Rattle.rules.specs.Layout.{up}
-use Rattle.distributor.specs.Outcomes.{received_of}
 use Rattle.rules.specs.Refusals.{receiving}
 use Rattle.rules.specs.Table.{endpoint_for, knows, keys_verdict, fields_answer, read_answer, octets_answer}
 use Rattle.rules.specs.Verdict.{Verdict, allowed, refusal}
-use Rattle.distributor.specs.declared.receiving.Received.{Received}
 use Rattle.service.specs.Limits.{room, answer_limit}
-use Rattle.service.specs.Reply.{Replies, frame_of}
 
 -- where Tunnel octets answers a delivery, its octets stand behind the identifier and the length
 abbrev OfTunnel : Answer → Type 0
@@ -56,17 +49,6 @@ module _ (s octets : List ℕ) where
   unfolding octets_answer
   of_octets = by_choice OfTunnel (up s) (read_answer s octets (receiving octets)) (refused 1 0) (λ h. of_reading (receiving octets)) (λ h. tt)
 
-  -- a refusal is one
-  not_none : (b : Bool) (a : Answer) → cond b none (some a) ≡ some (octets_answer s octets) → a ≡ octets_answer s octets
-  not_none true a e = absurd (none-ne-some (octets_answer s octets) e)
-  not_none false a e = some-injective a (octets_answer s octets) e
-
-  pub refused_received : (number taken : ℕ) → received_of (Received.Refused number taken) ≡ some (octets_answer s octets) → refused number taken ≡ octets_answer s octets
-  refused_received number taken e = not_none (eqb number 5) (refused number taken) e
-
-  pub received : (a : Answer) → some a ≡ some (octets_answer s octets) → a ≡ octets_answer s octets
-  received a e = some-injective a (octets_answer s octets) e
-
   -- a delivery's octets fit behind the head, the octets taken and the endpoint
   pub delivery_fits : (endpoint : ℕ) (dtls : Bounds) (taken : ℕ) → delivery endpoint dtls taken ≡ octets_answer s octets → length octets ≤ room
       → 9 + length (part_in octets dtls) ≤ answer_limit
@@ -76,10 +58,3 @@ module _ (s octets : List ℕ) where
       let a = length-take (dtls.end - dtls.start) (drop dtls.start octets) in
       let b = length-drop dtls.start octets in
       omega arith
-
--- the octets delivered, as a part of those lent
-pub same_octets : (l : List ℕ) (endpoint taken : ℕ) (d : List ℕ) {e x : List ℕ} {to : ℕ} → d ≡ e
-    → Replies (frame_of ((7 ∷ octets16 taken) ++ octets_of_32 endpoint ++ d)) l x to
-    → Replies (frame_of ((7 ∷ octets16 taken) ++ octets_of_32 endpoint ++ e)) l x to
-same_octets l endpoint taken d {e} {x} {to} h o =
-    subst (λ (f : List ℕ). Replies (frame_of ((7 ∷ octets16 taken) ++ octets_of_32 endpoint ++ f)) l x to) h o

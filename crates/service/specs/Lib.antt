@@ -1,5 +1,6 @@
 pub mod Limits
 pub mod Request
+pub mod AnswerKind
 pub mod Reply
 pub mod Sending
 pub mod Served

@@ -2,6 +2,7 @@
 // block in between (docs/RELAY.md).
 #![tactic(auto)]
 
+mod answer_kind;
 mod answers;
 mod associations;
 mod kind;

@@ -1,16 +1,16 @@
 -- The limits of what reading answers: a refusal's number is one octet, fields end within the lent octets, and their numbers have 16 bits.
-use Prim.Native.Nat.{ℕ, zero, suc, ◌+◌, ◌-◌, ◌^◌, ◌≤◌, ◌<◌}
+use Prim.Native.Nat.{ℕ, ◌+◌, ◌-◌, ◌^◌, ◌≤◌, ◌<◌}
 use mathlib.Core.Path.{◌≡◌}
 use mathlib.Core.Bool.{true, cond}
-use mathlib.Core.List.{List, [], ◌∷◌}
+use mathlib.Core.List.{List}
 use native.Mathlib.Omega.{arith}
 use lib.Dec.{ltb, eqb}
-use lib.ListN.{length, take, drop}
-use lib.Seq.{get_or-drop}
+use lib.ListN.{length, drop}
 use Rattle.octets.specs.Number.{octet_at, number16_at, Octets}
 use Rattle.octets.specs.Part.{part}
 use Rattle.octets.proofs.Tests.{by_choice}
 use Rattle.octets.proofs.NumberLaws.{number16_below}
+use Rattle.octets.proofs.OctetLaws.{take_octets, drop_octets}
 use Rattle.message.specs.Limits.{width, header, body_limit}
 use Rattle.message.specs.Frame as Frame
 use Rattle.message.specs.Walk.{begin, fixed, field8, field16, profile_list, complete}
@@ -48,15 +48,9 @@ ReadLimits s (accepted f taken) = FieldLimits s f
 
 -- ---- a part of octets is octets
 
-take_octets : (n : ℕ) (s : List ℕ) → Octets s → Octets (take n s)
-take_octets zero s o at = omega arith
-take_octets (suc n) [] o at = omega arith
-take_octets (suc n) (x ∷ s) o zero = o 0
-take_octets (suc n) (x ∷ s) o (suc at) = take_octets n s (λ i. o (suc i)) at
-
 part_octets : (s : List ℕ) (from to : ℕ) → Octets s → Octets (part s from to)
 unfolding part
-part_octets s from to o = take_octets (to - from) (drop from s) (λ at. rw get_or-drop (o (from + at)))
+part_octets s from to o = take_octets (to - from) (drop from s) (drop_octets from s o)
 
 -- ---- by the reading's steps
 

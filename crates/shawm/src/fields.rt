@@ -2,15 +2,16 @@
 // 4 client key, 5 server key, 6 client salt, 7 server salt, 8 DTLS octets.
 ghost use Rattle.std.specs.Prelude.{◌≡◌, length};
 ghost use Rattle.octets.specs.Bounds.{part_in};
-ghost use Rattle.shawm.specs.Fields.{numbered_bounds, field_bounds};
+ghost use Rattle.shawm.specs.Fields.{field_bounds};
 
-use message::FieldBounds;
 use octets::{Bounds, NOWHERE};
 
-// The bounds of the field with this number.
-fn numbered_bounds(p: FieldBounds, field: u32) -> Bounds
-    ensures { result ≡ numbered_bounds p field }
+// The bounds of the field with this number, one of C's.
+#[tactic(auto, unfolding(crate::specs::Fields::field_bounds, crate::specs::Fields::numbered_bounds))]
+fn field_bounds(s: &[u8], field: u32) -> Bounds
+    ensures { result ≡ field_bounds s.now field }
 {
+    let p = message::bounds_of(message::read_message(s));
     match field {
         1 => p.identifier,
         2 => p.profile_list,
@@ -20,14 +21,8 @@ fn numbered_bounds(p: FieldBounds, field: u32) -> Bounds
         6 => p.keys.client_salt,
         7 => p.keys.server_salt,
         8 => p.dtls,
-        0 | 9..=0xFFFF_FFFF => NOWHERE,
+        _ => NOWHERE,
     }
-}
-
-fn field_bounds(s: &[u8], field: u32) -> Bounds
-    ensures { result ≡ field_bounds s.now field }
-{
-    numbered_bounds(message::bounds_of(message::read_message(s)), field)
 }
 
 // The offset of its first octet; 0 where there is no such field.

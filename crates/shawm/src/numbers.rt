@@ -1,65 +1,19 @@
-// The numbers that a message holds: 16 version, 17 profile.
+// The numbers that a message holds, by C's numbers: 16 version, 17 profile.
 ghost use Rattle.std.specs.Prelude.{◌≡◌};
-ghost use Rattle.message.specs.Read.{reading, answer_of};
-ghost use Rattle.shawm.specs.Numbers.{version_of, profile_of, number_in, field_number};
+ghost use Rattle.message.specs.Read.{reading};
+ghost use Rattle.shawm.specs.Numbers.{number_in, field_number};
 
-use message::{Fields, Read};
+use message::Fields;
 
-fn version_of(fields: Fields) -> u32
-    ensures { result ≡ version_of fields }
-{
-    match fields {
-        Fields::SupportedProfiles {
-            version,
-            list_length: _,
-        } => version as u32,
-        Fields::UnsupportedVersion { version } => version as u32,
-        Fields::MediaKeys {
-            profile: _,
-            lengths: _,
-        } => 0,
-        Fields::TunneledDtls { dtls_length: _ } => 0,
-        Fields::EndpointDisconnect => 0,
-    }
-}
-
-fn profile_of(fields: Fields) -> u32
-    ensures { result ≡ profile_of fields }
-{
-    match fields {
-        Fields::SupportedProfiles {
-            version: _,
-            list_length: _,
-        } => 0,
-        Fields::UnsupportedVersion { version: _ } => 0,
-        Fields::MediaKeys {
-            profile,
-            lengths: _,
-        } => profile as u32,
-        Fields::TunneledDtls { dtls_length: _ } => 0,
-        Fields::EndpointDisconnect => 0,
-    }
-}
-
+#[tactic(auto, unfolding(crate::specs::Numbers::number_in))]
 fn number_in(fields: Fields, field: u32) -> u32
     ensures { result ≡ number_in fields field }
 {
-    match field {
-        16 => version_of(fields),
-        17 => profile_of(fields),
-        0..=15 | 18..=0xFFFF_FFFF => 0,
-    }
-}
-
-fn field_number(read: Read, field: u32) -> u32
-    ensures { result ≡ field_number (answer_of read) field }
-{
-    match read {
-        Read::MoreNeeded => 0,
-        Read::Oversize => 0,
-        Read::Unlisted { taken: _ } => 0,
-        Read::BadBody { taken: _ } => 0,
-        Read::Accepted { fields, taken: _ } => number_in(fields, field),
+    match (field, fields) {
+        (16, Fields::SupportedProfiles { version, .. }) => u32::from(version),
+        (16, Fields::UnsupportedVersion { version }) => u32::from(version),
+        (17, Fields::MediaKeys { profile, .. }) => u32::from(profile),
+        _ => 0,
     }
 }
 
@@ -68,5 +22,8 @@ fn field_number(read: Read, field: u32) -> u32
 pub extern "C" fn shawm_field_number(s: &[u8], field: u32) -> u32
     ensures { result ≡ field_number (reading s.now) field }
 {
-    field_number(message::read_message(s), field)
+    match message::read_message(s) {
+        Ok(Some(message)) => number_in(message.fields, field),
+        Ok(None) | Err(_) => 0,
+    }
 }

@@ -1,11 +1,10 @@
-// The kind of a packet as a number.
+// The kind of a packet as a number, one of C's: one that was given stays.
 ghost use Rattle.std.specs.Prelude.{◌≡◌};
-ghost use Rattle.demux.specs.Sorting.{sorting, answer_of};
+ghost use Rattle.demux.specs.Sorting.{sorting};
 ghost use Rattle.shawm.specs.Sorting.{kind_number, sort_number};
 
 use crate::refusal::refused;
-use demux::{Kind, Sorted};
-use octets::refusal::EMPTY_PACKET;
+use demux::Kind;
 
 fn kind_number(kind: Kind) -> u32
     ensures { result ≡ kind_number kind }
@@ -20,19 +19,10 @@ fn kind_number(kind: Kind) -> u32
     }
 }
 
-fn sort_number(answer: Sorted) -> u32
-    ensures { result ≡ sort_number (answer_of answer) }
-{
-    match answer {
-        Sorted::Empty => refused(EMPTY_PACKET),
-        Sorted::Packet(kind) => kind_number(kind),
-    }
-}
-
 // The kind of a packet, or refusal 19.
 #[unsafe(no_mangle)]
 pub extern "C" fn shawm_sort(packet: &[u8]) -> u32
     ensures { result ≡ sort_number (sorting packet.now) }
 {
-    sort_number(demux::sort(packet))
+    demux::sort(packet).map_or_else(refused, kind_number)
 }

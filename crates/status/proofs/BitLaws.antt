@@ -1,17 +1,15 @@
 -- Laws of bits: a number of so many bits, and where bits stand.
-use Prim.Native.Nat.{ℕ, zero, suc, ◌+◌, ◌-◌, ◌*◌, ◌/◌, ◌%◌, ◌^◌, ◌≤◌, ◌<◌}
+use Prim.Native.Nat.{ℕ, zero, suc, ◌+◌, ◌-◌, ◌*◌, ◌/◌, ◌%◌, ◌^◌, ◌<◌}
 use mathlib.Core.Path.{◌≡◌, refl, sym, ap, ap₂, subst, ◌∙◌}
 use mathlib.Core.List.{List, [], ◌∷◌, ◌++◌, append-nil, append_assoc}
 use native.Mathlib.Omega.{arith}
 use native.Mathlib.Nat.{two-pow-succ, pow-suc, zero-add, add-zero, add-suc, add_assoc, mul_assoc}
 use Rattle.octets.specs.Number.{octet_at}
+use Rattle.octets.proofs.Tests.{by_size}
 use lib.ListN.{length, length-append, get_or-append, get_or-eq_default}
 use lib.Seq.{get_or_at, get_or-append-add}
-use mathlib.Core.Bool.{Bool, true, false}
-use lib.Dec.{ltb}
 use lib.Arith.{digits_lt}
 use lib.Pow.{pow-add, high, low}
-use borrow.Author.Tests.{ltb-true, ltb-false}
 use Rattle.status.specs.Bits.{bits_of, bit_in, value_of, bit_at}
 
 -- each is 0 or 1
@@ -81,18 +79,10 @@ value_bits (suc w) n h =
     (ap (bit_in (p ++ (n % 2 ∷ []))) (zero-add w) ∙ snoc_last p (n % 2) w l)
     ∙ omega arith
 
--- by cases on an order
-pub either : {X : Type 0} (a b : ℕ) → (a < b → X) → (b ≤ a → X) → X
-either {X} a b f g = go (ltb a b) refl
-  where
-    go : (t : Bool) → ltb a b ≡ t → X
-    go true e = f (ltb-true a b e)
-    go false e = g (ltb-false a b e)
-
 last_or_before : (p : List ℕ) (b j w : ℕ) (g : ℕ → ℕ) → length p ≡ w → j < suc w → b ≡ g w → (j < w → bit_in p j ≡ g j)
     → bit_in (p ++ (b ∷ [])) j ≡ g j
 last_or_before p b j w g l h e k =
-    either j w
+    by_size j w
     (λ i. snoc_before p b j (omega arith) ∙ k i)
     (λ i. let d : w ≡ j = omega arith in snoc_last p b j (omega arith) ∙ e ∙ ap g d)
 
@@ -125,7 +115,7 @@ stands_second f at x y to e h j k =
 pub stands_both : (f : ℕ → ℕ) (at : ℕ) (x y : List ℕ) (to : ℕ) → at + length x ≡ to → Stands f at x → Stands f to y → Stands f at (x ++ y)
 stands_both f at x y to e h g j k =
     let n = length-append x y in
-    either j (length x)
+    by_size j (length x)
     (λ i. h j i ∙ sym (get_or-append x y 0 j i))
     (λ i.
     let m : length x + (j - length x) ≡ j = omega arith in
@@ -154,7 +144,7 @@ pub zero_value : (f : ℕ → ℕ) (at w : ℕ) → value_of f at w ≡ 0 → (j
 unfolding value_of
 zero_value f at zero e j k = absurd (omega arith)
 zero_value f at (suc w) e j k =
-    either j w (λ i. zero_value f at w (omega arith) j i) (λ i. let d : j ≡ w = omega arith in ap (λ (x : ℕ). f (at + x)) d ∙ omega arith)
+    by_size j w (λ i. zero_value f at w (omega arith) j i) (λ i. let d : j ≡ w = omega arith in ap (λ (x : ℕ). f (at + x)) d ∙ omega arith)
 
 -- ---- bits in two parts
 
@@ -197,7 +187,7 @@ below_add {x} {y} m n h k = subst (λ (z : ℕ). x * 2 ^ n + y < z) (sym (pow-ad
 -- the bits of zero
 pub zero_bits : (w k : ℕ) → bit_in (bits_of w 0) k ≡ 0
 zero_bits w k =
-    either k w
+    by_size k w
     (λ h. ap (λ (v : ℕ). bit_in (bits_of w v) k) (sym (value_zero (λ _. 0) 0 w (λ _ _. refl))) ∙ bits_value (λ _. 0) (λ _. omega arith) 0 w k h)
     (λ h. get_or-eq_default (bits_of w 0) 0 (rw length_bits h))
 

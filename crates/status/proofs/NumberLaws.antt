@@ -6,6 +6,7 @@ use native.Mathlib.Omega.{arith}
 use native.Mathlib.Nat.{add_assoc, add-zero, zero-add}
 use lib.ListN.{length, get_or-eq_default}
 use Rattle.octets.specs.Number.{Octets}
+use Rattle.octets.proofs.Tests.{by_size}
 use Rattle.status.specs.Limits.{count_bits, place_bits, state_bits, endpoint_bits, entry_bits, page_bits}
 use Rattle.status.specs.Bits.{bit_in, value_of, octets_for, octets_of, pack, bit_at}
 use Rattle.status.specs.Entries.{entry_at, entries_at}
@@ -13,7 +14,7 @@ use Rattle.status.specs.Page.{bits_of_page, layout, count_of, decoded}
 use Rattle.status.specs.Claims.{joined, fields, LaidOut}
 use Rattle.status.specs.declared.entry.Entry.{Entry}
 use Rattle.status.proofs.LimitFacts.{state_two}
-use Rattle.status.proofs.BitLaws.{Binary, either, value_ext, value_below, value_add, value_zero, binary_at}
+use Rattle.status.proofs.BitLaws.{Binary, value_ext, value_below, value_add, value_zero, binary_at}
 use Rattle.status.proofs.PackLaws.{pack_length, pack_octet}
 use Rattle.status.proofs.EntryLaws.{state_of_lem}
 use Rattle.status.proofs.PageLaws.{Good, page_bits_lem, layout_length, binary_page, layout_bit, layout_filling, layout_count, layout_decoded}
@@ -57,7 +58,7 @@ entries_joined f o at m (suc n) =
 
 pub pack_octets : (p : List ℕ) → Binary (bit_in p) → Octets (pack p)
 pack_octets p o i =
-    either i (octets_for (length p))
+    by_size i (octets_for (length p))
     (λ h. omega (arith, pack_octet p i h, value_below (bit_in p) o (i * 8) 8))
     (λ h. omega (arith, get_or-eq_default (pack p) 0 {n = i} (rw pack_length h)))
 

@@ -1,41 +1,27 @@
 -- Laws of lists of numbers, and of the endpoints of a page's entries.
 use Prim.Native.Nat.{ℕ, zero, suc, ◌+◌, ◌*◌, ◌≤◌, ◌<◌}
-use mathlib.Core.Path.{◌≡◌, refl, sym, ap, ap₂, ◌∙◌}
+use mathlib.Core.Path.{◌≡◌, refl, sym, ap, ap₂, subst, ◌∙◌}
 use mathlib.Core.Bool.{Bool, true, false, not, ◌&&◌, ◌||◌}
 use mathlib.Core.List.{List, [], ◌∷◌, ◌++◌, map}
 use native.Mathlib.Omega.{arith}
 use native.Mathlib.Numerals.{add-one}
+use Rattle.std.specs.List.{list_any}
 use lib.Dec.{eqb}
 use lib.ListN.{length, get_or, take, drop, set, drop_of_length-le}
-use lib.Seq.{take-suc, take-suc-set, drop-cons}
+use lib.Seq.{take-suc-set, drop-cons}
 use Rattle.status.specs.Limits.{count_bits, entry_bits, page_bits}
 use Rattle.status.specs.Numbers.{has, apart}
-use Rattle.status.specs.Entries.{mentions, distinct, endpoint_of, entry_at, entries_at}
+use Rattle.status.specs.Page.{entries_in}
+use Rattle.status.specs.Entries.{rising, mentions, distinct, endpoint_of, entry_at, entries_at}
 use Rattle.status.specs.declared.entry.Entry.{Entry}
 
 -- ---- a number among others
 
-or_end : (a b : Bool) → (a || (b || false)) ≡ (a || b)
-or_end true b = refl
-or_end false true = refl
-or_end false false = refl
-
-or_next : (a b c : Bool) → (a || (b || c)) ≡ ((a || b) || c)
-or_next true b c = refl
-or_next false b c = refl
-
-has_last : (n x : ℕ) (l : List ℕ) → has n (l ++ (x ∷ [])) ≡ (has n l || eqb x n)
+-- as the library's search says it
+pub has_any : (n : ℕ) (l : List ℕ) → list_any (λ x. eqb x n) l ≡ has n l
 unfolding has
-has_last n x [] = or_end false (eqb x n)
-has_last n x (y ∷ l) = ap (λ (b : Bool). eqb y n || b) (has_last n x l) ∙ or_next (eqb y n) (has n l) (eqb x n)
-
--- one more is looked at
-pub has_next : (n : ℕ) (l : List ℕ) (i : ℕ) → i < length l → has n (take (i + 1) l) ≡ (has n (take i l) || eqb (get_or l i 0) n)
-has_next n l i h = rw (add-one, take-suc l i 0 h) (has_last n (get_or l i 0) (take i l))
-
-pub has_none : (n : ℕ) (l : List ℕ) → has n (take 0 l) ≡ false
-unfolding has
-has_none n l = refl
+has_any n [] = refl
+has_any n (x ∷ l) = ap (λ (b : Bool). eqb x n || b) (has_any n l)
 
 -- ---- numbers that differ
 
@@ -45,11 +31,11 @@ module _ (l : List ℕ) (i : ℕ) (h : i < length l) where
   apart_here = rw (add-one, drop-cons l i 0 h)
 
   -- a number that comes again, and one that does not
-  pub apart_not : has (get_or l i 0) (drop (i + 1) l) ≡ true → apart (drop i l) ≡ false
-  apart_not e = apart_here ∙ rw e
+  pub apart_not : list_any (λ x. eqb x (get_or l i 0)) (drop (i + 1) l) ≡ true → apart (drop i l) ≡ false
+  apart_not e = apart_here ∙ rw (sym (has_any (get_or l i 0) (drop (i + 1) l)) ∙ e)
 
-  pub apart_next : has (get_or l i 0) (drop (i + 1) l) ≡ false → apart (drop i l) ≡ apart (drop (i + 1) l)
-  apart_next e = apart_here ∙ rw e
+  pub apart_next : list_any (λ x. eqb x (get_or l i 0)) (drop (i + 1) l) ≡ false → apart (drop i l) ≡ apart (drop (i + 1) l)
+  apart_next e = apart_here ∙ rw (sym (has_any (get_or l i 0) (drop (i + 1) l)) ∙ e)
 
 pub apart_none : (l : List ℕ) (i : ℕ) → length l ≤ i → apart (drop i l) ≡ true
 unfolding apart
@@ -66,6 +52,14 @@ pub distinct_apart : (es : List Entry) → distinct es ≡ apart (map endpoint_o
 unfolding distinct apart
 distinct_apart [] = refl
 distinct_apart (e ∷ es) = ap₂ (λ (a b : Bool). not a && b) (mentions_has e.endpoint es) (distinct_apart es)
+
+-- of entries whose places rise it is enough to compare the endpoints
+pub rising_apart : (s : List ℕ) (n : ℕ) {m : ℕ} {list : List ℕ} {rises differ : Bool} → rises ≡ rising 0 (entries_in s m)
+    → (rises ≡ true → list ≡ map endpoint_of (entries_in s m)) → rises ≡ true → differ ≡ apart list → m ≡ n
+    → differ ≡ (rising 0 (entries_in s n) && distinct (entries_in s n))
+rising_apart s n {m} {list} {rises} {differ} e stored t d k =
+    subst (λ (i : ℕ). differ ≡ (rising 0 (entries_in s i) && distinct (entries_in s i))) k
+    (rw (sym e ∙ t) (d ∙ ap apart (stored t) ∙ sym (distinct_apart (entries_in s m))))
 
 -- the last of so many entries
 entries_last : (f : ℕ → ℕ) (at n : ℕ) → map endpoint_of (entries_at f at (suc n)) ≡ map endpoint_of (entries_at f at n) ++ ((entry_at f (at + n * entry_bits)).endpoint ∷ [])

@@ -10,7 +10,7 @@ use lib.ListN.{length, length-append, get_or-eq_default}
 use borrow.Author.Tests.{eqb-true, eqb-false}
 use Rattle.octets.specs.Number.{octet_at, Octets}
 use Rattle.octets.specs.Part.{same}
-use Rattle.octets.proofs.Tests.{both}
+use Rattle.octets.proofs.Tests.{both, by_size}
 use Rattle.octets.proofs.SameLaws.{same_refl, same_apart}
 use Rattle.status.specs.Limits.{places, count_bits, page_bits}
 use Rattle.status.specs.Bits.{bits_of, bit_in, value_of, octets_for, bit_at}
@@ -18,7 +18,7 @@ use Rattle.status.specs.Entries.{bits_of_entries, rising, distinct, narrow, good
 use Rattle.status.specs.Page.{bits_of_page, layout, count_of, decoded}
 use Rattle.status.specs.declared.entry.Entry.{Entry}
 use Rattle.status.proofs.LimitFacts.{count_fits}
-use Rattle.status.proofs.BitLaws.{Binary, Stands, either, binary_at, length_bits, binary_append, binary_bits, stands_first, stands_second, stands_both, stands_value, value_stands, value_zero, zero_value}
+use Rattle.status.proofs.BitLaws.{Binary, Stands, binary_at, length_bits, binary_append, binary_bits, stands_first, stands_second, stands_both, stands_value, value_stands, value_zero, zero_value}
 use Rattle.status.proofs.PackLaws.{pack_length, pack_bit, pack_back, bit_past}
 use Rattle.status.proofs.WordLaws.{last_bits}
 use Rattle.status.proofs.EntryLaws.{length_entries, binary_entries, length_entries_at, stands_entries, entries_stand, rising_length}
@@ -124,7 +124,7 @@ module _ (s : List ℕ) where
 
       behind : (k : ℕ) → width ≤ k → bit_at s k ≡ 0
       behind k h =
-          either k (octets_for width * 8)
+          by_size k (octets_for width * 8)
           (λ i.
           let e : width + (k - width) ≡ k = omega arith in
           sym (ap (bit_at s) e) ∙ zero_value (bit_at s) width (octets_for width * 8 - width) z (k - width) (omega arith))
@@ -132,7 +132,7 @@ module _ (s : List ℕ) where
 
       bit : (k : ℕ) → bit_in (bits_of_page (decoded s)) k ≡ bit_at s k
       bit k =
-          either k width
+          by_size k width
           (λ i. sym (page_stands k (rw decoded_width i)) ∙ ap (bit_at s) (zero-add k))
           (λ i. get_or-eq_default (bits_of_page (decoded s)) 0 (rw decoded_width i) ∙ sym (behind k i))
 

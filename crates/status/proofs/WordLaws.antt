@@ -1,10 +1,12 @@
 -- Bits read eight octets at a time.
 use Prim.Native.Nat.{ℕ, ◌+◌, ◌-◌, ◌*◌, ◌/◌, ◌%◌, ◌^◌, ◌≤◌, ◌<◌}
-use mathlib.Core.Path.{◌≡◌, sym, ap, ap₂, subst, ◌∙◌}
+use mathlib.Core.Path.{◌≡◌, sym, ap, ap₂, ◌∙◌}
 use mathlib.Core.List.{List}
 use native.Mathlib.Omega.{arith}
-use native.Mathlib.Nat.{one-mul, lt_of_lt_of_le}
-use lib.Pow.{pow_mono, shl_exact, low}
+use native.Mathlib.Nat.{one-mul}
+use lib.ListN.{get_or}
+use lib.Pow.{shl_exact, low}
+use Rattle.std.specs.Int.{w64, from_be_bytes}
 use Rattle.octets.specs.Number.{octet_at, Octets}
 use Rattle.status.specs.Limits.{field_bits}
 use Rattle.status.specs.Bits.{value_of, bit_at}
@@ -22,21 +24,21 @@ module _ (s : List ℕ) (o : Octets s) where
   pub pair_value : (at : ℕ) → octet_at s at * 256 + octet_at s (at + 1) ≡ value_of (bit_at s) (at * 8) 16
   pair_value at = joined (bit_at s) at 1 (sym (octet_bits s at (o at))) (sym (octet_bits s (at + 1) (o (at + 1))))
 
--- one octet more
-pub next_octet_lem : (s : List ℕ) → Octets s → (at i : ℕ) {v : ℕ} → v ≡ value_of (bit_at s) (at * 8) (i * 8)
-    → v * 256 + octet_at s (at + i) ≡ value_of (bit_at s) (at * 8) ((i + 1) * 8)
-next_octet_lem s o at i {v} e =
-    let k : at * 8 + i * 8 ≡ (at + i) * 8 = omega arith in
-    let n : i * 8 + 8 ≡ (i + 1) * 8 = omega arith in
-    ap₂ (λ (x y : ℕ). x * 256 + y) e (sym (octet_bits s (at + i) (o (at + i))) ∙ ap (λ (a : ℕ). value_of (bit_at s) a 8) (sym k))
-    ∙ sym (value_add (bit_at s) (at * 8) (i * 8) 8)
-    ∙ ap (value_of (bit_at s) (at * 8)) n
+  -- eight octets as one number
+  module _ (at : ℕ) (octets : List ℕ) (h : (i : ℕ) → i < 8 → get_or octets i 0 ≡ octet_at s (at + i)) where
+    there : (i j : ℕ) → i < 8 → at + i ≡ j → get_or octets i 0 ≡ octet_at s j
+    there i j k e = h i k ∙ ap (octet_at s) e
 
--- with fewer than eight there is room for one
-pub few_below : (s : List ℕ) (at i : ℕ) {v : ℕ} → i < 8 → v ≡ value_of (bit_at s) (at * 8) (i * 8) → v < 2 ^ 56
-few_below s at i h e =
-    let k : i * 8 ≤ 56 = omega arith in
-    lt_of_lt_of_le (subst (λ (x : ℕ). x < 2 ^ (i * 8)) (sym e) (value_below (bit_at s) (binary_at s) (at * 8) (i * 8))) (pow_mono k)
+    pair_there : (i j : ℕ) → i + 1 < 8 → at + i ≡ j → get_or octets i 0 * 256 + get_or octets (i + 1) 0 ≡ value_of (bit_at s) (j * 8) 16
+    pair_there i j k e = ap₂ (λ (x y : ℕ). x * 256 + y) (there i j (omega arith) e) (there (i + 1) (j + 1) k (omega arith)) ∙ pair_value j
+
+    pub word_value : {n : ℕ} → n ≡ from_be_bytes w64 octets → n ≡ value_of (bit_at s) (at * 8) 64
+    word_value {n} e =
+        let first = joined (bit_at s) at 2 (pair_there 0 at (omega arith) (omega arith)) (pair_there 2 (at + 2) (omega arith) (omega arith)) in
+        let last = joined (bit_at s) (at + 4) 2 (pair_there 4 (at + 4) (omega arith) (omega arith)) (pair_there 6 (at + 4 + 2) (omega arith) (omega arith)) in
+        let sum : n ≡ get_or octets 0 0 * 256 ^ 7 + get_or octets 1 0 * 256 ^ 6 + get_or octets 2 0 * 256 ^ 5 + get_or octets 3 0 * 256 ^ 4
+        + get_or octets 4 0 * 256 ^ 3 + get_or octets 5 0 * 256 ^ 2 + get_or octets 6 0 * 256 + get_or octets 7 0 = e in
+        omega (arith, sum, joined (bit_at s) at 4 first last)
 
 -- the numbers of so many bits
 pub field_count : (width : ℕ) → width ≤ field_bits → 1 * 2 ^ width % 2 ^ 64 ≡ 2 ^ width

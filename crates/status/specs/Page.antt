@@ -1,12 +1,12 @@
 -- The status page and its reader: document 02, order 1.
-use Rattle.std.specs.Prelude.{ℕ, Bool, false, cond, ◌&&◌, List, ◌++◌, length, get_or, ltb}
+use Rattle.std.specs.Prelude.{ℕ, Bool, false, cond, ◌&&◌, List, ◌++◌, length, get_or, ltb, Result, Ok, Err}
 use Rattle.octets.specs.Part.{same}
+use Rattle.octets.specs.Refusal.{number_of}
+use Rattle.octets.specs.declared.refusal.Refusal.{Refusal}
 use Rattle.status.specs.Limits.{count_bits}
 use Rattle.status.specs.Bits.{bits_of, value_of, pack, bit_at}
 use Rattle.status.specs.Entries.{bits_of_entries, good, entries_at}
 use Rattle.status.specs.declared.entry.Entry.{Entry}
-use Rattle.status.specs.declared.reading.Page.{Page}
-use Rattle.status.specs.declared.reading.Nth.{Nth}
 
 -- "6 bits for the number of live associations, then for each live place ..; zero bits fill the last octet"
 unfoldable pub bits_of_page : List Entry → List ℕ
@@ -52,12 +52,12 @@ no_entry = record { place = 0; keyed = false; endpoint = 0 }
 unfoldable pub picking : (page : List ℕ) (n : ℕ) → Picked
 picking s n = cond (is_page s && ltb n (count_of s)) (entry (get_or (decoded s) n no_entry)) (refused 29)
 
--- ---- the answers that the cases of the enums stand for
+-- ---- the answers that the results stand for
 
-abbrev pub counted_of : Page → Counted
-counted_of Page.NotAPage = refused 29
-counted_of (Page.Entries count) = entries count
+abbrev pub counted_of : Result ℕ Refusal → Counted
+counted_of (Err refusal) = refused (number_of refusal)
+counted_of (Ok count) = entries count
 
-abbrev pub picked_of : Nth → Picked
-picked_of Nth.NotThere = refused 29
-picked_of (Nth.Here e) = entry e
+abbrev pub picked_of : Result Entry Refusal → Picked
+picked_of (Err refusal) = refused (number_of refusal)
+picked_of (Ok e) = entry e

@@ -1,5 +1,5 @@
 // A live place of a table, as the page shows it.
-#[derive(Clone, Copy)]
+#[derive(Clone, Copy, Debug, PartialEq, Eq)]
 pub struct Entry {
     pub place: usize,
     pub keyed: bool,

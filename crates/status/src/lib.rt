@@ -10,4 +10,4 @@ mod reading;
 
 pub use entry::Entry;
 pub use limits::{COUNT_BITS, ENDPOINT_BITS, ENTRY_BITS, PLACE_BITS, PLACES, STATE_BITS, STATES};
-pub use reading::{Nth, Page, read_entry, read_page};
+pub use reading::{read_entry, read_page};

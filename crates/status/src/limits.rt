@@ -40,5 +40,5 @@ pub(crate) fn octets_for(bits: usize) -> usize
     requires { bits ≤ page_bits places }
     ensures { result ≡ octets_for bits }
 {
-    (bits + 7) / 8
+    bits.div_ceil(8)
 }

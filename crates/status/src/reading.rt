@@ -8,26 +8,10 @@ use crate::bits::value;
 use crate::entries::{entries_good, entry_at};
 use crate::entry::Entry;
 use crate::limits::{COUNT_BITS, PLACES, octets_for, page_bits};
-use octets::octet;
-
-// What reading a page gives.
-#[derive(Clone, Copy)]
-pub enum Page {
-    // Refusal 29: no table has these octets as its page.
-    NotAPage,
-    // The number of entries.
-    Entries(usize),
-}
-
-// What reading an entry gives.
-#[derive(Clone, Copy)]
-pub enum Nth {
-    // Refusal 29: there is no page, or none with such an entry.
-    NotThere,
-    Here(Entry),
-}
+use octets::{Refusal, octet};
 
 // The number of entries that octets speak of.
+#[tactic(auto, unfolding(crate::specs::Page::count_of))]
 fn count_of(page: &[u8]) -> usize
     ensures { result ≡ count_of page.now }
 {
@@ -35,6 +19,7 @@ fn count_of(page: &[u8]) -> usize
 }
 
 // Whether octets are as many as for a page with so many entries, and filled with zero bits.
+#[tactic(auto, using(crate::proofs::PageLaws::laid_tests))]
 fn laid_out(page: &[u8], count: usize) -> bool
     requires { (count ≡ count_of page.now) × (count ≤ places) }
     ensures { result ≡ same (layout (decoded page.now)) page.now }
@@ -46,35 +31,26 @@ fn laid_out(page: &[u8], count: usize) -> bool
 }
 
 // The number of entries of a page, or refusal 29.
-pub fn read_page(page: &[u8]) -> Page
+#[tactic(auto, using(crate::proofs::ReadLaws::page_tests, crate::proofs::ReadLaws::page_few), unfolding(crate::specs::Page::counting))]
+pub fn read_page(page: &[u8]) -> Result<usize, Refusal>
     ensures { counted_of result ≡ counting page.now }
 {
     let count = count_of(page);
-    if PLACES < count {
-        return Page::NotAPage;
+    if PLACES < count || !laid_out(page, count) || !entries_good(page, count) {
+        return Err(Refusal::NotAPage);
     }
-    if !laid_out(page, count) {
-        return Page::NotAPage;
-    }
-    if entries_good(page, count) {
-        Page::Entries(count)
-    } else {
-        Page::NotAPage
-    }
+    Ok(count)
 }
 
 // The nth entry of a page, counted from 0, or refusal 29.
-pub fn read_entry(page: &[u8], n: usize) -> Nth
+#[tactic(auto, using(crate::proofs::ReadLaws::page_few, crate::proofs::ReadLaws::nth_read), unfolding(crate::specs::Page::counting, crate::specs::Page::picking))]
+pub fn read_entry(page: &[u8], n: usize) -> Result<Entry, Refusal>
     ensures { picked_of result ≡ picking page.now n }
 {
-    match read_page(page) {
-        Page::NotAPage => Nth::NotThere,
-        Page::Entries(count) => {
-            if n < count {
-                Nth::Here(entry_at(page, page_bits(n)))
-            } else {
-                Nth::NotThere
-            }
-        }
+    let count = read_page(page)?;
+    if n < count {
+        Ok(entry_at(page, page_bits(n)))
+    } else {
+        Err(Refusal::NotAPage)
     }
 }

@@ -1,79 +1,92 @@
 // A case is a line: the library, the call, the octets that it is given, a bar, the text of the case.
 // The octets stand in brackets, before the bar or in the text. Any other line is a remark.
-use crate::{blocks, index, keys, pages, profiles, reading, sorting, table, tags, writing};
-use distributor::BLOCK;
-use lines::{pieces, print, rows};
-use std::io;
+use crate::table::Table;
+use crate::{blocks, index, keys, pages, profiles, reading, sorting, tags, writing};
+use lines::{numbers, pieces, rows};
+use std::{fmt, io};
 
 const CALL: usize = 8;
 
 // The most octets of a case.
 const OCTETS: usize = 65600;
 
+// The output stands beside a case wherever one is written: with it inside, a case could not be copied.
+#[derive(Clone, Copy)]
+pub struct Case<'a> {
+    line: &'a [u8],
+    pub given: &'a [u8],
+}
+
+impl<'a> Case<'a> {
+    // The first letter of the library.
+    fn library(self) -> u8 {
+        octets::octet(self.line, 0)
+    }
+
+    // The first letter of the call.
+    pub fn call(self) -> u8 {
+        octets::octet(self.line, CALL)
+    }
+
+    // The number that ends the line, or as many before it.
+    pub fn number(self, back: usize) -> usize {
+        numbers::number(self.line, back)
+    }
+
+    pub fn number32(self, back: usize) -> u32 {
+        (self.number(back) % 4294967296) as u32
+    }
+
+    pub fn number16(self, back: usize) -> u16 {
+        (self.number(back) % 65536) as u16
+    }
+
+    // The text, of a row without its brackets.
+    pub fn echo(self, to: &mut impl io::Write) -> io::Result<()> {
+        let text = pieces::behind(self.line, b'|');
+        match self.call() {
+            b'r' => {
+                to.write_all(pieces::before(text, b'['))?;
+                to.write_all(pieces::before(pieces::behind(text, b'['), b']'))
+            }
+            _ => to.write_all(text),
+        }
+    }
+
+    // The text with its answer, as a line.
+    pub fn answer(self, to: &mut impl io::Write, answer: &impl fmt::Display) -> io::Result<()> {
+        self.echo(to)?;
+        writeln!(to, ": {answer}")
+    }
+}
+
 // The first line is a heading.
 pub fn run(to: &mut impl io::Write, cases: &[u8]) -> io::Result<()> {
-    let mut state = distributor::first_state();
-    for i in 0..cases.len() {
-        next(to, &mut state, octets::part(cases, i, cases.len()))?;
+    let mut table = Table::new();
+    let mut space = [0; OCTETS];
+    for line in cases.split(|&c| c == b'\n').skip(1) {
+        let count = rows::read(pieces::before(line, b']'), &mut space);
+        let case = Case {
+            line,
+            given: octets::part(&space, 0, count),
+        };
+        ask(to, &mut table, case)?;
     }
     Ok(())
 }
 
-// The line behind a line's end.
-fn next(to: &mut impl io::Write, state: &mut [u8; BLOCK], rest: &[u8]) -> io::Result<()> {
-    if octets::octet(rest, 0) == b'\n' {
-        case(
-            to,
-            state,
-            pieces::before(octets::part(rest, 1, rest.len()), b'\n'),
-        )
-    } else {
-        Ok(())
-    }
-}
-
-fn case(to: &mut impl io::Write, state: &mut [u8; BLOCK], line: &[u8]) -> io::Result<()> {
-    let mut space = [0u8; OCTETS];
-    let count = rows::read(pieces::before(line, b']'), &mut space);
-    ask(to, state, line, octets::part(&space, 0, count))
-}
-
-fn ask(
-    to: &mut impl io::Write,
-    state: &mut [u8; BLOCK],
-    line: &[u8],
-    given: &[u8],
-) -> io::Result<()> {
-    match octets::octet(line, 0) {
-        b'a' => blocks::case(to, line, given),
-        b'd' => sorting::case(to, line, given),
-        b'e' => tags::case(to, line, given),
-        b'i' => index::case(to, line),
-        b'k' => keys::case(to, line, given),
-        b'r' => reading::case(to, line, given),
-        b'w' => writing::case(to, line, given),
-        b'p' => profiles::case(to, line, given),
-        b's' => pages::case(to, line, given),
-        b't' => table::case(to, state, line, given),
+fn ask(to: &mut impl io::Write, table: &mut Table, case: Case<'_>) -> io::Result<()> {
+    match case.library() {
+        b'a' => blocks::case(to, case),
+        b'd' => sorting::case(to, case),
+        b'e' => tags::case(to, case),
+        b'i' => index::case(to, case),
+        b'k' => keys::case(to, case),
+        b'r' => reading::case(to, case),
+        b'w' => writing::case(to, case),
+        b'p' => profiles::case(to, case),
+        b's' => pages::case(to, case),
+        b't' => table.case(to, case),
         _ => Ok(()),
     }
-}
-
-// The first letter of the call.
-pub fn call(line: &[u8]) -> u8 {
-    octets::octet(line, CALL)
-}
-
-// The text, of a row without its brackets.
-pub fn echo(to: &mut impl io::Write, line: &[u8]) -> io::Result<()> {
-    let text = pieces::behind(line, b'|');
-    match call(line) {
-        b'r' => row(to, text),
-        _ => print::text(to, text),
-    }
-}
-
-fn row(to: &mut impl io::Write, text: &[u8]) -> io::Result<()> {
-    print::text(to, pieces::before(text, b'['))?;
-    print::text(to, pieces::before(pieces::behind(text, b'['), b']'))
 }

@@ -1,48 +1,41 @@
 // The index of a packet, and what is kept of its stream. The numbers that end the text are the ROC, the highest
 // sequence number seen, and the packet's.
-use crate::cases;
-use lines::words::say;
-use lines::{numbers, print, words};
-use octets::refusal::{KEY_SPENT, NO_SUCH_INDEX};
-use packetindex::{Estimated, Stream, Updated};
-use std::io;
+use crate::cases::Case;
+use octets::Refusal;
+use packetindex::{Estimate, Stream};
+use std::{fmt, io};
 
-pub fn case(to: &mut impl io::Write, line: &[u8]) -> io::Result<()> {
+pub fn case(to: &mut impl io::Write, case: Case<'_>) -> io::Result<()> {
     let stream = Stream {
-        roc: numbers::number32(line, 2),
-        highest: numbers::number16(line, 1),
+        roc: case.number32(2),
+        highest: case.number16(1),
     };
-    let sequence = numbers::number16(line, 0);
-    cases::echo(to, line)?;
-    say(to, words::COLON)?;
-    estimated(to, packetindex::estimate(stream, sequence))?;
-    updated(to, packetindex::update(stream, sequence))?;
-    say(to, words::END_LINE)
+    let sequence = case.number16(0);
+    let estimated = Estimated(stream.estimate(sequence));
+    let updated = Updated(stream.update(sequence));
+    case.answer(to, &format_args!("{estimated}, {updated}"))
 }
 
-fn estimated(to: &mut impl io::Write, answer: Estimated) -> io::Result<()> {
-    match answer {
-        Estimated::NoSuchIndex => print::refusal(to, NO_SUCH_INDEX),
-        Estimated::KeySpent => print::refusal(to, KEY_SPENT),
-        Estimated::Index { roc, index } => {
-            print::count(to, words::INDEX, index as usize)?;
-            print::count(to, words::UNDER_ROC, roc as usize)
+#[derive(Clone, Copy)]
+struct Estimated(Result<Estimate, Refusal>);
+
+impl fmt::Display for Estimated {
+    fn fmt<W: fmt::Write>(&self, f: &mut fmt::Formatter<W>) -> fmt::Result {
+        match self.0 {
+            Ok(Estimate { roc, index }) => write!(f, "index={index} under roc={roc}"),
+            Err(refusal) => write!(f, "{refusal}"),
         }
     }
 }
 
-fn updated(to: &mut impl io::Write, answer: Updated) -> io::Result<()> {
-    match answer {
-        Updated::NoSuchIndex => refused(to, NO_SUCH_INDEX),
-        Updated::KeySpent => refused(to, KEY_SPENT),
-        Updated::Keep { stream } => {
-            print::count(to, words::KEPT_ROC, stream.roc as usize)?;
-            print::count(to, words::HIGHEST, stream.highest as usize)
+#[derive(Clone, Copy)]
+struct Updated(Result<Stream, Refusal>);
+
+impl fmt::Display for Updated {
+    fn fmt<W: fmt::Write>(&self, f: &mut fmt::Formatter<W>) -> fmt::Result {
+        match self.0 {
+            Ok(Stream { roc, highest }) => write!(f, "kept roc={roc} highest={highest}"),
+            Err(refusal) => write!(f, "update {refusal}"),
         }
     }
-}
-
-fn refused(to: &mut impl io::Write, number: u8) -> io::Result<()> {
-    say(to, words::UPDATE)?;
-    print::refusal(to, number)
 }

@@ -1,67 +1,61 @@
 // AES Key Wrap with Padding, and RFC 3394's process over registers. The octets are those of the key and then of the
 // plaintext, the ciphertext or the registers; the numbers that end the text are the lengths of the key and of the output.
-use crate::outputs::FILL;
-use crate::{blocks, cases, outputs, writes};
+use crate::blocks;
+use crate::cases::Case;
+use crate::outputs::{FILL, Refused};
 use keywrap::limits::CIPHERTEXT;
-use keywrap::{Unwrapped, Wrapped};
-use lines::words::say;
-use lines::{numbers, print, words};
+use lines::print::{Part, Row};
+use octets::Refusal;
 use std::io;
 
-pub fn case(to: &mut impl io::Write, line: &[u8], given: &[u8]) -> io::Result<()> {
-    cases::echo(to, line)?;
-    say(to, words::COLON)?;
-    match cases::call(line) {
-        b'w' => wrap(to, line, given),
-        b'u' => unwrap(to, line, given),
-        b'p' => process(to, true, given),
-        _ => process(to, false, given),
+// The longest output.
+const ROOM: usize = 256;
+
+// Closures, since the check has no name for another crate's function as a value.
+pub fn case(to: &mut impl io::Write, case: Case<'_>) -> io::Result<()> {
+    match case.call() {
+        b'w' => whole(to, case, |key, text, out| keywrap::wrap(key, text, out)),
+        b'u' => whole(to, case, |key, text, out| keywrap::unwrap(key, text, out)),
+        b'p' => registers(to, case, |w, x| keywrap::wrap_in_place(w, x)),
+        _ => registers(to, case, |w, x| keywrap::unwrap_in_place(w, x)),
     }
 }
 
-fn wrap(to: &mut impl io::Write, line: &[u8], given: &[u8]) -> io::Result<()> {
-    let mut space = [FILL; 256];
-    let out = outputs::first(&mut space, numbers::number(line, 0));
-    let end = numbers::number(line, 1);
-    let plaintext = octets::part(given, end, given.len());
-    match keywrap::wrap(octets::part(given, 0, end), plaintext, out) {
-        Wrapped::KeyLength => writes::refused(to, octets::refusal::EKT_KEY_OR_SALT_LENGTH, out),
-        Wrapped::PlaintextLength => writes::refused(to, octets::refusal::PLAINTEXT_LENGTH, out),
-        Wrapped::NoRoom => writes::refused(to, octets::refusal::NO_ROOM, out),
-        Wrapped::Written { count } => written(to, count, out),
+// Wrapped or unwrapped to an output.
+fn whole<F: FnOnce(&[u8], &[u8], &mut [u8]) -> Result<usize, Refusal>>(
+    to: &mut impl io::Write,
+    case: Case<'_>,
+    call: F,
+) -> io::Result<()>
+    requires { F.IsAlwaysCallable call }
+{
+    let mut space = [FILL; ROOM];
+    let out = &mut space[..case.number(0).min(ROOM)];
+    let end = case.number(1);
+    let key = octets::part(case.given, 0, end);
+    let text = octets::part(case.given, end, case.given.len());
+    match call(key, text, out) {
+        Ok(count) => {
+            let row = Row(octets::part(out, 0, count));
+            let behind = Part(octets::part(out, count, out.len()));
+            case.answer(to, &format_args!("{row} behind={behind}"))
+        }
+        Err(refusal) => case.answer(to, &Refused { refusal, out }),
     }
-}
-
-fn unwrap(to: &mut impl io::Write, line: &[u8], given: &[u8]) -> io::Result<()> {
-    let mut space = [FILL; 256];
-    let out = outputs::first(&mut space, numbers::number(line, 0));
-    let end = numbers::number(line, 1);
-    let ciphertext = octets::part(given, end, given.len());
-    match keywrap::unwrap(octets::part(given, 0, end), ciphertext, out) {
-        Unwrapped::KeyLength => writes::refused(to, octets::refusal::EKT_KEY_OR_SALT_LENGTH, out),
-        Unwrapped::BadCiphertext => writes::refused(to, octets::refusal::BAD_CIPHERTEXT, out),
-        Unwrapped::NoRoom => writes::refused(to, octets::refusal::NO_ROOM, out),
-        Unwrapped::Written { count } => written(to, count, out),
-    }
-}
-
-fn written(to: &mut impl io::Write, count: usize, out: &[u8]) -> io::Result<()> {
-    print::octet_row(to, octets::part(out, 0, count))?;
-    print::part(to, words::BEHIND, octets::part(out, count, out.len()))?;
-    say(to, words::END_LINE)
 }
 
 // The registers in place, forward or back.
-fn process(to: &mut impl io::Write, forward: bool, given: &[u8]) -> io::Result<()> {
+fn registers<F: FnOnce(&[u8; 176], &mut [u8]) -> bool>(
+    to: &mut impl io::Write,
+    case: Case<'_>,
+    process: F,
+) -> io::Result<()>
+    requires { F.IsAlwaysCallable process }
+{
     let mut space = [0; CIPHERTEXT];
-    let count = octets::put_octets(&mut space, 0, octets::part(given, 16, given.len()));
-    let x = outputs::first(&mut space, count);
-    let w = blocks::schedule(given);
-    if forward {
-        keywrap::wrap_in_place(&w, x);
-    } else {
-        keywrap::unwrap_in_place(&w, x);
-    }
-    print::octet_row(to, x)?;
-    say(to, words::END_LINE)
+    let registers = octets::part(case.given, 16, case.given.len());
+    let count = octets::put_octets(&mut space, 0, registers);
+    let x = &mut space[..count.min(CIPHERTEXT)];
+    process(&blocks::schedule(case.given), x);
+    case.answer(to, &Row(x))
 }

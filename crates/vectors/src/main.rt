@@ -8,17 +8,16 @@ mod example;
 mod index;
 mod keys;
 mod messages;
-mod outcomes;
 mod outputs;
 mod pages;
 mod profiles;
 mod reading;
+mod receiving;
 mod records;
 mod sending;
 mod sorting;
 mod table;
 mod tags;
-mod writes;
 mod writing;
 
 use std::io;

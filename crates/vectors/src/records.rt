@@ -1,54 +1,66 @@
 // A record as Look gives it, in words: a line for it and one for each key field, with the zeros
 // behind its length.
-use distributor::{Found, Looked, Record, RecordKeys};
-use lines::words::say;
-use lines::{print, words};
-use std::io;
+use distributor::{Padded, Record, RecordKeys};
+use lines::print::{Number16, Part, YesOrNo};
+use std::fmt;
 
-pub fn looked(to: &mut impl io::Write, l: Looked) -> io::Result<()> {
-    say(to, words::COLON)?;
-    let answer = l.answer;
-    match answer {
-        Found::Refused { number } => refused(to, number),
-        Found::Here => record(to, l.record),
+// The key fields of an open record.
+const NO_KEYS: RecordKeys = RecordKeys {
+    profile: 0,
+    mki: Padded {
+        length: 0,
+        octets: [0; 16],
+    },
+    client_key: NO_FIELD,
+    server_key: NO_FIELD,
+    client_salt: NO_FIELD,
+    server_salt: NO_FIELD,
+};
+
+const NO_FIELD: Padded<32> = Padded {
+    length: 0,
+    octets: [0; 32],
+};
+
+#[derive(Clone, Copy)]
+pub struct Found(pub Record);
+
+impl fmt::Display for Found {
+    fn fmt<W: fmt::Write>(&self, f: &mut fmt::Formatter<W>) -> fmt::Result {
+        let record = &self.0;
+        let identifier = Part(&record.identifier);
+        let keyed = YesOrNo(record.keys.is_some());
+        writeln!(
+            f,
+            "found identifier={identifier} endpoint={} keyed: {keyed}",
+            record.endpoint
+        )?;
+        write!(f, "{}", Keys(record.keys.unwrap_or(NO_KEYS)))
     }
 }
 
-fn refused(to: &mut impl io::Write, number: u8) -> io::Result<()> {
-    print::refusal(to, number)?;
-    say(to, words::END_LINE)
-}
-
-fn record(to: &mut impl io::Write, r: Record) -> io::Result<()> {
-    whose(to, &r.identifier, r.endpoint, r.keyed)?;
-    keys(to, r.keys)?;
-    salts(to, r.keys)
-}
-
-fn whose(to: &mut impl io::Write, identifier: &[u8], endpoint: u32, keyed: bool) -> io::Result<()> {
-    say(to, words::FOUND)?;
-    print::part(to, words::IDENTIFIER, identifier)?;
-    print::count(to, words::ENDPOINT, endpoint as usize)?;
-    say(to, words::KEYED)?;
-    print::yes_or_no(to, keyed)
-}
-
 // Of keys and salts the client's, then the server's.
-fn keys(to: &mut impl io::Write, k: RecordKeys) -> io::Result<()> {
-    print::number16(to, words::RECORD_PROFILE, k.profile)?;
-    say(to, words::END_LINE)?;
-    field(to, words::RECORD_MKI, k.mki_length, &k.mki)?;
-    field(to, words::RECORD_KEY, k.client_key_length, &k.client_key)?;
-    field(to, words::RECORD_KEY, k.server_key_length, &k.server_key)
+#[derive(Clone, Copy)]
+struct Keys(RecordKeys);
+
+impl fmt::Display for Keys {
+    fn fmt<W: fmt::Write>(&self, f: &mut fmt::Formatter<W>) -> fmt::Result {
+        let keys = self.0;
+        writeln!(f, "  profile {}", Number16(keys.profile))?;
+        writeln!(f, "  mki {}", Field(keys.mki))?;
+        writeln!(f, "  key {}", Field(keys.client_key))?;
+        writeln!(f, "  key {}", Field(keys.server_key))?;
+        writeln!(f, "  salt {}", Field(keys.client_salt))?;
+        write!(f, "  salt {}", Field(keys.server_salt))
+    }
 }
 
-fn salts(to: &mut impl io::Write, k: RecordKeys) -> io::Result<()> {
-    field(to, words::RECORD_SALT, k.client_salt_length, &k.client_salt)?;
-    field(to, words::RECORD_SALT, k.server_salt_length, &k.server_salt)
-}
+#[derive(Clone, Copy)]
+struct Field<const N: usize>(Padded<N>);
 
-fn field(to: &mut impl io::Write, name: usize, length: u8, octets: &[u8]) -> io::Result<()> {
-    print::count(to, name, length as usize)?;
-    print::part(to, words::RECORD_OCTETS, octets)?;
-    say(to, words::END_LINE)
+impl<const N: usize> fmt::Display for Field<N> {
+    fn fmt<W: fmt::Write>(&self, f: &mut fmt::Formatter<W>) -> fmt::Result {
+        let octets = Part(&self.0.octets);
+        write!(f, "length={} octets={octets}", self.0.length)
+    }
 }

@@ -1,27 +1,23 @@
 // The calls of the table that write a message.
-use crate::outputs::{FILL, ROOM};
-use crate::{cases, outcomes, outputs};
-use distributor::{BLOCK, Sent};
-use lines::numbers;
+use crate::cases::Case;
+use crate::outputs::{FILL, ROOM, Refused, Written};
+use distributor::BLOCK;
+use octets::Refusal;
 use std::io;
 
-pub fn case(
-    to: &mut impl io::Write,
-    state: &mut [u8; BLOCK],
-    line: &[u8],
-    given: &[u8],
-) -> io::Result<()> {
-    cases::echo(to, line)?;
+pub fn case(to: &mut impl io::Write, state: &mut [u8; BLOCK], case: Case<'_>) -> io::Result<()> {
     let mut space = [FILL; ROOM];
-    let out = outputs::first(&mut space, numbers::number(line, 0));
-    let answer = send(state, line, given, out);
-    outcomes::sent(to, answer, out)
+    let out = &mut space[..case.number(0).min(ROOM)];
+    match send(state, case, out) {
+        Ok(count) => case.answer(to, &Written { count, out }),
+        Err(refusal) => case.answer(to, &Refused { refusal, out }),
+    }
 }
 
-fn send(state: &mut [u8; BLOCK], line: &[u8], given: &[u8], out: &mut [u8]) -> Sent {
-    match cases::call(line) {
-        b's' => distributor::start(state, given, out),
-        b'c' => distributor::close(state, given, out),
-        _ => distributor::booth_packet(state, numbers::endpoint(line, 1), given, out),
+fn send(state: &mut [u8; BLOCK], case: Case<'_>, out: &mut [u8]) -> Result<usize, Refusal> {
+    match case.call() {
+        b's' => distributor::start(state, case.given, out),
+        b'c' => distributor::close(state, case.given, out),
+        _ => distributor::booth_packet(state, case.number32(1), case.given, out),
     }
 }

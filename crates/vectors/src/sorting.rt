@@ -1,52 +1,47 @@
 // Packets sorted by their first octet.
-use crate::cases;
-use demux::{Kind, Sorted};
-use lines::words::say;
-use lines::{print, words};
-use std::io;
+use crate::cases::Case;
+use demux::Kind;
+use std::{fmt, io};
 
-pub fn case(to: &mut impl io::Write, line: &[u8], given: &[u8]) -> io::Result<()> {
-    match cases::call(line) {
+pub fn case(to: &mut impl io::Write, case: Case<'_>) -> io::Result<()> {
+    match case.call() {
         b'e' => every_first(to),
-        _ => packet(to, line, given),
+        _ => {
+            case.echo(to)?;
+            writeln!(to, " {}", Sorted(case.given))
+        }
     }
 }
 
-fn packet(to: &mut impl io::Write, line: &[u8], packet: &[u8]) -> io::Result<()> {
-    cases::echo(to, line)?;
-    sorted(to, packet)
-}
-
+// Packets of one octet, since no other is looked at.
 fn every_first(to: &mut impl io::Write) -> io::Result<()> {
     for octet in 0..=255u8 {
-        first(to, octet)?;
+        let packet = [octet];
+        writeln!(to, "sort first={octet} {}", Sorted(&packet))?;
     }
     Ok(())
 }
 
-// A packet of one octet, since no other is looked at.
-fn first(to: &mut impl io::Write, octet: u8) -> io::Result<()> {
-    print::count(to, words::SORT_FIRST, octet as usize)?;
-    sorted(to, &[octet])
-}
+// How a packet was sorted.
+#[derive(Clone, Copy)]
+struct Sorted<'a>(&'a [u8]);
 
-// The end of a line: how the packet was sorted.
-fn sorted(to: &mut impl io::Write, packet: &[u8]) -> io::Result<()> {
-    say(to, words::SPACE)?;
-    match demux::sort(packet) {
-        Sorted::Empty => print::refusal(to, octets::refusal::EMPTY_PACKET)?,
-        Sorted::Packet(kind) => named(to, kind)?,
+impl fmt::Display for Sorted<'_> {
+    fn fmt<W: fmt::Write>(&self, f: &mut fmt::Formatter<W>) -> fmt::Result {
+        match demux::sort(self.0) {
+            Ok(kind) => f.write_str(name(kind)),
+            Err(refusal) => write!(f, "{refusal}"),
+        }
     }
-    say(to, words::END_LINE)
 }
 
-fn named(to: &mut impl io::Write, kind: Kind) -> io::Result<()> {
+fn name(kind: Kind) -> &'static str {
     match kind {
-        Kind::Stun => say(to, words::STUN),
-        Kind::Zrtp => say(to, words::ZRTP),
-        Kind::Dtls => say(to, words::DTLS),
-        Kind::TurnChannel => say(to, words::TURN_CHANNEL),
-        Kind::Rtp => say(to, words::RTP),
-        Kind::Other => say(to, words::OTHER),
+        Kind::Stun => "STUN",
+        Kind::Zrtp => "ZRTP",
+        Kind::Dtls => "DTLS",
+        Kind::TurnChannel => "TURN channel",
+        Kind::Rtp => "RTP",
+        Kind::Other => "Other",
     }
 }

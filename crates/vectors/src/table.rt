@@ -1,66 +1,70 @@
 // The calls of the table, each as a line with its answer. The state lasts from line to line.
+use crate::cases::Case;
 use crate::outputs::FILL;
-use crate::{cases, outcomes, pages, records, sending};
+use crate::receiving::Told;
+use crate::records::Found;
+use crate::{pages, sending};
 use distributor::BLOCK;
-use lines::numbers;
 use std::io;
 
-pub fn case(
-    to: &mut impl io::Write,
-    state: &mut [u8; BLOCK],
-    line: &[u8],
-    given: &[u8],
-) -> io::Result<()> {
-    match cases::call(line) {
-        b'f' => {
-            first(state, given);
-            Ok(())
+#[derive(Drop)]
+pub struct Table {
+    block: [u8; BLOCK],
+}
+
+impl Table {
+    pub fn new() -> Self {
+        Table {
+            block: distributor::first_state(),
         }
-        b'o' => open(to, state, line, given),
-        b't' => tunnel_octets(to, state, line, given),
-        b'e' => end(to, state, line),
-        b'l' => look(to, state, line),
-        b'p' => pages::write(to, state, line),
-        _ => sending::case(to, state, line, given),
     }
-}
 
-// The first state, or that of a tunnel just started with a list: an empty one is refused.
-fn first(state: &mut [u8; BLOCK], list: &[u8]) {
-    let mut out = [FILL; 10];
-    *state = distributor::first_state();
-    distributor::start(state, list, &mut out);
-}
+    pub fn case(&mut self, to: &mut impl io::Write, case: Case<'_>) -> io::Result<()> {
+        match case.call() {
+            b'f' => {
+                self.first(case);
+                Ok(())
+            }
+            b'o' => self.open(to, case),
+            b't' => self.tunnel_octets(to, case),
+            b'e' => self.end(to, case),
+            b'l' => self.look(to, case),
+            b'p' => pages::write(to, &self.block, case),
+            _ => sending::case(to, &mut self.block, case),
+        }
+    }
 
-fn open(
-    to: &mut impl io::Write,
-    state: &mut [u8; BLOCK],
-    line: &[u8],
-    identifier: &[u8],
-) -> io::Result<()> {
-    cases::echo(to, line)?;
-    outcomes::opened(
-        to,
-        distributor::open(state, identifier, numbers::endpoint(line, 0)),
-    )
-}
+    // The first state, or that of a tunnel just started with a list: an empty one is refused.
+    fn first(&mut self, case: Case<'_>) {
+        let mut out = [FILL; 10];
+        self.block = distributor::first_state();
+        let _ = distributor::start(&mut self.block, case.given, &mut out);
+    }
 
-fn tunnel_octets(
-    to: &mut impl io::Write,
-    state: &mut [u8; BLOCK],
-    line: &[u8],
-    lent: &[u8],
-) -> io::Result<()> {
-    cases::echo(to, line)?;
-    outcomes::received(to, distributor::tunnel_octets(state, lent), lent)
-}
+    fn open(&mut self, to: &mut impl io::Write, case: Case<'_>) -> io::Result<()> {
+        match distributor::open(&mut self.block, case.given, case.number32(0)) {
+            Ok(place) => case.answer(to, &format_args!("place {place}")),
+            Err(refusal) => case.answer(to, &refusal),
+        }
+    }
 
-fn end(to: &mut impl io::Write, state: &mut [u8; BLOCK], line: &[u8]) -> io::Result<()> {
-    cases::echo(to, line)?;
-    outcomes::ended(to, distributor::end(state))
-}
+    fn tunnel_octets(&mut self, to: &mut impl io::Write, case: Case<'_>) -> io::Result<()> {
+        let lent = case.given;
+        let answer = distributor::tunnel_octets(&mut self.block, lent);
+        case.answer(to, &Told { lent, answer })
+    }
 
-fn look(to: &mut impl io::Write, state: &[u8; BLOCK], line: &[u8]) -> io::Result<()> {
-    cases::echo(to, line)?;
-    records::looked(to, distributor::look(state, numbers::endpoint(line, 0)))
+    fn end(&mut self, to: &mut impl io::Write, case: Case<'_>) -> io::Result<()> {
+        match distributor::end(&mut self.block) {
+            Ok(()) => case.answer(to, &"done"),
+            Err(refusal) => case.answer(to, &refusal),
+        }
+    }
+
+    fn look(&self, to: &mut impl io::Write, case: Case<'_>) -> io::Result<()> {
+        match distributor::look(&self.block, case.number32(0)) {
+            Ok(record) => case.answer(to, &Found(record)),
+            Err(refusal) => case.answer(to, &refusal),
+        }
+    }
 }

@@ -1,50 +1,36 @@
 // Packets split from their EKT tags.
-use crate::cases;
+use crate::cases::Case;
 use ekt::Tag;
-use lines::words::say;
-use lines::{print, words};
-use std::io;
+use lines::print::{Number16, Part};
+use std::{fmt, io};
 
-pub fn case(to: &mut impl io::Write, line: &[u8], given: &[u8]) -> io::Result<()> {
-    cases::echo(to, line)?;
-    split(to, given)
+pub fn case(to: &mut impl io::Write, case: Case<'_>) -> io::Result<()> {
+    case.answer(to, &Split(case.given))
 }
 
-// The end of a line: the tag, and the parts that are lent from the packet.
-fn split(to: &mut impl io::Write, packet: &[u8]) -> io::Result<()> {
-    say(to, words::COLON)?;
-    match ekt::split(packet) {
-        Tag::NoTag => print::refusal(to, octets::refusal::NO_TAG)?,
-        Tag::Short { start: _ } => front(to, words::SHORT, packet)?,
-        Tag::Full {
-            spi,
-            epoch,
-            start: _,
-            end: _,
-        } => full(to, packet, spi, epoch)?,
-        Tag::Extension {
-            message_type,
-            start: _,
-            end: _,
-        } => extension(to, packet, message_type)?,
+// The tag of a packet, and the parts that are lent from the packet.
+#[derive(Clone, Copy)]
+struct Split<'a>(&'a [u8]);
+
+impl fmt::Display for Split<'_> {
+    fn fmt<W: fmt::Write>(&self, f: &mut fmt::Formatter<W>) -> fmt::Result {
+        let packet = self.0;
+        let front = Part(ekt::front(packet));
+        match ekt::split(packet) {
+            Ok(Tag::Short { .. }) => write!(f, "Short front={front}"),
+            Ok(Tag::Full { spi, epoch, .. }) => {
+                let ciphertext = Part(ekt::ciphertext(packet));
+                let (spi, epoch) = (Number16(spi), Number16(epoch));
+                write!(
+                    f,
+                    "Full front={front} ciphertext={ciphertext} spi={spi} epoch={epoch}"
+                )
+            }
+            Ok(Tag::Extension { message_type, .. }) => {
+                let data = Part(ekt::extension_data(packet));
+                write!(f, "Extension {message_type} front={front} data={data}")
+            }
+            Err(refusal) => write!(f, "{refusal}"),
+        }
     }
-    say(to, words::END_LINE)
-}
-
-fn front(to: &mut impl io::Write, name: usize, packet: &[u8]) -> io::Result<()> {
-    say(to, name)?;
-    print::part(to, words::FRONT, ekt::front(packet))
-}
-
-fn full(to: &mut impl io::Write, packet: &[u8], spi: u16, epoch: u16) -> io::Result<()> {
-    front(to, words::FULL, packet)?;
-    print::part(to, words::CIPHERTEXT, ekt::ciphertext(packet))?;
-    print::number16(to, words::SPI, spi)?;
-    print::number16(to, words::EPOCH, epoch)
-}
-
-fn extension(to: &mut impl io::Write, packet: &[u8], message_type: u8) -> io::Result<()> {
-    print::count(to, words::EXTENSION, message_type as usize)?;
-    print::part(to, words::FRONT, ekt::front(packet))?;
-    print::part(to, words::DATA, ekt::extension_data(packet))
 }

@@ -1,89 +1,68 @@
 // Messages written to an output of a given length. The octets of their fields stand one behind the
 // other in the row; each field has octets of its own, so that a swap is seen.
-use crate::outputs::{FILL, ROOM};
-use crate::{cases, example, outputs, writes};
-use lines::numbers;
+use crate::cases::Case;
+use crate::example;
+use crate::messages::Read;
+use crate::outputs::{FILL, ROOM, Refused, Written};
+use octets::Refusal;
 use std::io;
-use writers::Write;
+use writers::KeyFields;
 
-pub fn case(to: &mut impl io::Write, line: &[u8], given: &[u8]) -> io::Result<()> {
-    match cases::call(line) {
-        b's' => example::case(to, line, given),
-        _ => output(to, line, given),
+pub fn case(to: &mut impl io::Write, case: Case<'_>) -> io::Result<()> {
+    match case.call() {
+        b's' => example::case(to, case),
+        _ => output(to, case),
     }
 }
 
-fn output(to: &mut impl io::Write, line: &[u8], given: &[u8]) -> io::Result<()> {
-    cases::echo(to, line)?;
+// The whole output is read back, with the octets behind the message.
+fn output(to: &mut impl io::Write, case: Case<'_>) -> io::Result<()> {
     let mut space = [FILL; ROOM];
-    let out = outputs::first(&mut space, numbers::number(line, 0));
-    let answer = write(line, given, out);
-    writes::outcome(to, answer, out)
-}
-
-fn write(line: &[u8], given: &[u8], out: &mut [u8]) -> Write {
-    match cases::call(line) {
-        b'k' => media_keys(line, given, out),
-        b'd' => tunneled_dtls(line, given, out),
-        _ => write_short(cases::call(line), given, out),
+    let out = &mut space[..case.number(0).min(ROOM)];
+    match write(case, out) {
+        Ok(count) => {
+            let written = Written { count, out };
+            case.answer(to, &format_args!("{written} read back: {}", Read(out)))
+        }
+        Err(refusal) => case.answer(to, &Refused { refusal, out }),
     }
 }
 
-fn write_short(call: u8, given: &[u8], out: &mut [u8]) -> Write {
-    match call {
-        b'l' => supported_profiles(given, out),
-        b'v' => writers::write_unsupported_version(octets::octet(given, 0), out),
-        _ => writers::write_endpoint_disconnect(given, out),
+fn write(case: Case<'_>, out: &mut [u8]) -> Result<usize, Refusal> {
+    match case.call() {
+        b'k' => media_keys(case, out),
+        b'd' => {
+            let (identifier, dtls) = cut(case.given, case.number(2));
+            writers::write_tunneled_dtls(identifier, dtls, out)
+        }
+        // The version stands before the list.
+        b'l' => {
+            let (version, list) = cut(case.given, 1);
+            writers::write_supported_profiles(octets::octet(version, 0), list, out)
+        }
+        b'v' => writers::write_unsupported_version(octets::octet(case.given, 0), out),
+        _ => writers::write_endpoint_disconnect(case.given, out),
     }
 }
 
-// The version stands before the list.
-fn supported_profiles(given: &[u8], out: &mut [u8]) -> Write {
-    let list = octets::part(given, 1, given.len());
-    writers::write_supported_profiles(octets::octet(given, 0), list, out)
-}
-
-fn tunneled_dtls(line: &[u8], given: &[u8], out: &mut [u8]) -> Write {
-    let end = numbers::number(line, 2);
-    let identifier = octets::part(given, 0, end);
-    writers::write_tunneled_dtls(identifier, octets::part(given, end, given.len()), out)
-}
-
-fn media_keys(line: &[u8], given: &[u8], out: &mut [u8]) -> Write {
-    let identifier = numbers::length(line, 6) as usize;
-    let mki = identifier + numbers::length(line, 5) as usize;
-    let client_key = mki + numbers::length(line, 4) as usize;
-    let server_key = client_key + numbers::length(line, 3) as usize;
-    let client_salt = server_key + numbers::length(line, 2) as usize;
-    write_keys(
-        given,
-        identifier,
+// Each field by its length; the server's salt is the rest.
+fn media_keys(case: Case<'_>, out: &mut [u8]) -> Result<usize, Refusal> {
+    let (identifier, rest) = cut(case.given, case.number16(6) as usize);
+    let (mki, rest) = cut(rest, case.number16(5) as usize);
+    let (client_key, rest) = cut(rest, case.number16(4) as usize);
+    let (server_key, rest) = cut(rest, case.number16(3) as usize);
+    let (client_salt, server_salt) = cut(rest, case.number16(2) as usize);
+    let keys = KeyFields {
         mki,
         client_key,
         server_key,
         client_salt,
-        out,
-    )
+        server_salt,
+    };
+    writers::write_media_keys(identifier, 0x0102, keys, out)
 }
 
-// Each field by its end.
-fn write_keys(
-    given: &[u8],
-    identifier: usize,
-    mki: usize,
-    client_key: usize,
-    server_key: usize,
-    client_salt: usize,
-    out: &mut [u8],
-) -> Write {
-    writers::write_media_keys(
-        octets::part(given, 0, identifier),
-        0x0102,
-        octets::part(given, identifier, mki),
-        octets::part(given, mki, client_key),
-        octets::part(given, client_key, server_key),
-        octets::part(given, server_key, client_salt),
-        octets::part(given, client_salt, given.len()),
-        out,
-    )
+// The first n octets, and those behind them.
+fn cut(s: &[u8], n: usize) -> (&[u8], &[u8]) {
+    s.split_at(n.min(s.len()))
 }

@@ -5,13 +5,17 @@ use mathlib.Core.Bool.{Bool, true, false, cond, not}
 use mathlib.Core.List.{List}
 use native.Mathlib.Omega.{arith}
 use borrow.Author.Tests.{eqb-true}
+use Rattle.std.specs.Prelude.{Some}
+use Rattle.std.specs.Bool.{then_some}
 use lib.Dec.{eqb}
 use lib.ListN.{length, length-append}
 use Rattle.message.specs.Limits.{width}
-use Rattle.message.specs.Message.{Message, supported_profiles, unsupported_version, media_keys, tunneled_dtls, endpoint_disconnect, encode, encode_body}
-use Rattle.message.specs.Write.{Answer, refused, fitting, identifier_fits, fields_fit, writing}
+use Rattle.message.specs.Message.{Message, supported_profiles, unsupported_version, tunneled_dtls, endpoint_disconnect, encode, encode_body}
+use Rattle.message.specs.Write.{refused, fitting, identifier_fits, fields_fit, writing}
 use Rattle.message.proofs.AnswerLaws.{encode_length}
-use Rattle.writers.specs.Steps.{answer_by, keys_answer}
+use Rattle.writers.specs.Keys as Keys
+use Rattle.writers.specs.Steps.{answer_by, answer_for}
+use Rattle.writers.specs.Keys.{KeyFields}
 
 module _ (m : Message) (room : ℕ) where
   by_identifier : (b : Bool) (n : ℕ) → (b ≡ true → length (encode_body m) ≡ n)
@@ -25,29 +29,37 @@ module _ (m : Message) (room : ℕ) where
   unfolding writing
   answer_is n h = by_identifier (identifier_fits m) n h
 
-module _ {v : Answer} (room : ℕ) where
+-- a body's length where its fields fit
+by_fields : (i f : Bool) (n room : ℕ) → answer_for i (then_some f n) room ≡ answer_by i f n room
+by_fields i true n room = refl
+by_fields i false n room = refl
+
+module _ (room : ℕ) where
   pub profiles_answer : (version : ℕ) (l : List ℕ)
-      → v ≡ answer_by true (fields_fit (supported_profiles version l)) (3 + length l) room → v ≡ writing (supported_profiles version l) room
-  profiles_answer version l e = e ∙ answer_is (supported_profiles version l) room (3 + length l) (λ _. omega arith)
+      → answer_for true (then_some (fields_fit (supported_profiles version l)) (3 + length l)) room ≡ writing (supported_profiles version l) room
+  profiles_answer version l =
+      by_fields true (fields_fit (supported_profiles version l)) (3 + length l) room
+      ∙ answer_is (supported_profiles version l) room (3 + length l) (λ _. omega arith)
 
-  pub version_answer : (version : ℕ) → v ≡ answer_by true true 1 room → v ≡ writing (unsupported_version version) room
-  version_answer version e = e ∙ answer_is (unsupported_version version) room 1 (λ _. refl)
+  pub version_answer : (version : ℕ) → answer_for true (Some 1) room ≡ writing (unsupported_version version) room
+  version_answer version = answer_is (unsupported_version version) room 1 (λ _. refl)
 
-  pub dtls_answer : (i d : List ℕ) → v ≡ answer_by (eqb (length i) width) (fields_fit (tunneled_dtls i d)) (width + 2 + length d) room
-      → v ≡ writing (tunneled_dtls i d) room
-  dtls_answer i d e =
-      e
+  pub dtls_answer : (i d : List ℕ)
+      → answer_for (eqb (length i) width) (then_some (fields_fit (tunneled_dtls i d)) (width + 2 + length d)) room ≡ writing (tunneled_dtls i d) room
+  dtls_answer i d =
+      by_fields (eqb (length i) width) (fields_fit (tunneled_dtls i d)) (width + 2 + length d) room
       ∙ answer_is (tunneled_dtls i d) room (width + 2 + length d)
       (λ h. let w = eqb-true (length i) width h in simp length-append (omega arith))
 
-  pub disconnect_answer : (i : List ℕ) → v ≡ answer_by (eqb (length i) width) true width room → v ≡ writing (endpoint_disconnect i) room
-  disconnect_answer i e = e ∙ answer_is (endpoint_disconnect i) room width (eqb-true (length i) width)
+  pub disconnect_answer : (i : List ℕ) → answer_for (eqb (length i) width) (Some width) room ≡ writing (endpoint_disconnect i) room
+  disconnect_answer i = answer_is (endpoint_disconnect i) room width (eqb-true (length i) width)
 
-module _ (i : List ℕ) (p : ℕ) (m ck sk cs ss : List ℕ) (room : ℕ) where
+module _ (i : List ℕ) (p : ℕ) (k : KeyFields) (room : ℕ) where
   keys_length_lem : length i ≡ width
-      → length (encode_body (media_keys i p m ck sk cs ss)) ≡ width + 7 + length m + length ck + length sk + length cs + length ss
+      → length (encode_body (Keys.media_keys i p k)) ≡ width + 7 + length k.mki.now + length k.client_key.now + length k.server_key.now + length k.client_salt.now + length k.server_salt.now
   keys_length_lem h = simp length-append (omega arith)
 
-  pub keys_answer_lem : {v : Answer} → v ≡ keys_answer (length i) (length m) (length ck) (length sk) (length cs) (length ss) room
-      → v ≡ writing (media_keys i p m ck sk cs ss) room
-  keys_answer_lem e = e ∙ answer_is (media_keys i p m ck sk cs ss) room _ (λ h. keys_length_lem (eqb-true _ _ h))
+  pub keys_answer_lem : answer_for (eqb (length i) width) (Keys.body_length k) room ≡ writing (Keys.media_keys i p k) room
+  keys_answer_lem =
+      by_fields (eqb (length i) width) (Keys.fit k) _ room
+      ∙ answer_is (Keys.media_keys i p k) room _ (λ h. keys_length_lem (eqb-true _ _ h))

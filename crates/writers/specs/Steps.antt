@@ -1,8 +1,8 @@
 -- What the steps of writing promise: a piece at an offset, and the answer to a message by the lengths of its fields.
-use Rattle.std.specs.Prelude.{ℕ, ◌+◌, ◌≤◌, ◌≡◌, Bool, cond, not, List, length, eqb}
+use Rattle.std.specs.Prelude.{ℕ, ◌+◌, ◌≤◌, ◌≡◌, Bool, true, false, cond, not, List, length, Option, Some, None}
 use Rattle.octets.specs.Write.{put, put_end}
-use Rattle.message.specs.Limits.{width, header}
-use Rattle.message.specs.Write.{Answer, refused, written, fitting, key_fields_fit}
+use Rattle.message.specs.Limits.{header}
+use Rattle.message.specs.Write.{Answer, refused, fitting}
 
 -- where there is room for a piece it is written, and the answer is the offset behind it
 abbrev pub Puts : (before : List ℕ) (at : ℕ) (piece : List ℕ) (r : ℕ) (after : List ℕ) → Type 0
@@ -15,13 +15,7 @@ answer_by identifier fields body_length room =
     (cond (not fields) (refused 5)
     (fitting body_length (header + body_length) room))
 
--- the octets written, 0 where a message is refused
-abbrev pub count_of : Answer → ℕ
-count_of (refused number) = 0
-count_of (written count) = count
-
--- MediaKeys by the lengths of its fields
-abbrev pub keys_answer : (identifier mki client_key server_key client_salt server_salt room : ℕ) → Answer
-keys_answer identifier mki client_key server_key client_salt server_salt room =
-    answer_by (eqb identifier width) (key_fields_fit mki client_key server_key client_salt server_salt)
-    (width + 7 + mki + client_key + server_key + client_salt + server_salt) room
+-- the same by the length of a body, none where its fields don't fit
+abbrev pub answer_for : (identifier : Bool) → (body_length : Option ℕ) → (room : ℕ) → Answer
+answer_for identifier None room = answer_by identifier false 0 room
+answer_for identifier (Some n) room = answer_by identifier true n room

@@ -2,10 +2,12 @@
 // octets are is defined in `message`.
 #![tactic(auto)]
 
+mod keys;
 mod putting;
 mod writing;
 
+pub use keys::KeyFields;
 pub use writing::{
-    Write, write_endpoint_disconnect, write_media_keys, write_supported_profiles,
-    write_tunneled_dtls, write_unsupported_version,
+    write_endpoint_disconnect, write_media_keys, write_supported_profiles, write_tunneled_dtls,
+    write_unsupported_version,
 };

@@ -3,174 +3,87 @@ ghost use Rattle.std.specs.Prelude.{◌≡◌, eqb};
 ghost use Rattle.message.specs.Limits.{width};
 ghost use Rattle.message.specs.Message as M;
 ghost use Rattle.message.specs.Write.{Writes};
+ghost use Rattle.writers.specs.Keys as Keys;
 ghost use Rattle.writers.specs.Outcome.{answer_of};
 ghost use Rattle.writers.specs.Steps as Steps;
 
-use crate::putting;
-use message::limits::{BODY_LIMIT, HEADER, MOST_8, MOST_16, WIDTH};
+use crate::keys::KeyFields;
+use crate::{keys, putting};
+use message::limits::{BODY_BEFORE_DTLS, BODY_LIMIT, HEADER, MOST_16, WIDTH};
+use octets::Refusal;
 
-#[derive(Clone, Copy)]
-pub enum Write {
-    // Refusal 20.
-    IdentifierLength,
-    // Refusal 5.
-    BadFields,
-    // Refusal 2.
-    Oversize,
-    // Refusal 13.
-    NoRoom,
-    Written { count: usize },
-}
-
-// Refusals 20; 5; 2; 13 by the identifier's length, whether the fields fit and the body's length,
-// or the message's length. A message with no identifier gives WIDTH.
-fn fit(identifier: usize, fields: bool, body_length: usize, room: usize) -> Write
-    ensures { answer_of result ≡ Steps.answer_by (eqb identifier width) fields body_length room }
+// How many octets the message has. Refusals 20; 5; 2; 13 by the identifier's length, the body's length, none where its fields
+// don't fit, and the message's length. A message with no identifier gives WIDTH.
+fn fit(identifier: usize, body_length: Option<usize>, room: usize) -> Result<usize, Refusal>
+    ensures { answer_of result ≡ Steps.answer_for (eqb identifier width) body_length room }
 {
     if identifier != WIDTH {
-        return Write::IdentifierLength;
+        return Err(Refusal::IdentifierLength);
     }
-    if !fields {
-        return Write::BadFields;
-    }
+    let body_length = body_length.ok_or(Refusal::BadBody)?;
     if (BODY_LIMIT as usize) < body_length {
-        return Write::Oversize;
+        return Err(Refusal::Oversize);
     }
     if room < HEADER + body_length {
-        return Write::NoRoom;
+        return Err(Refusal::NoRoom);
     }
-    Write::Written {
-        count: HEADER + body_length,
-    }
-}
-
-// The octets written, 0 where the message is refused.
-fn count_of(answer: Write) -> usize
-    ensures { result ≡ Steps.count_of (answer_of answer) }
-{
-    match answer {
-        Write::IdentifierLength => 0,
-        Write::BadFields => 0,
-        Write::Oversize => 0,
-        Write::NoRoom => 0,
-        Write::Written { count } => count,
-    }
+    Ok(HEADER + body_length)
 }
 
 // SupportedProfiles: refusals 5; 2; 13.
-pub fn write_supported_profiles(version: u8, list: &[u8], out: &mut [u8]) -> Write
+#[tactic(auto, using(crate::proofs::LengthLaws::profiles_answer, crate::proofs::OutputLaws::output_told, crate::proofs::OutputLaws::output_refused))]
+pub fn write_supported_profiles(version: u8, list: &[u8], out: &mut [u8]) -> Result<usize, Refusal>
     ensures { Writes (M.supported_profiles version list.now) out.old out.new (answer_of result) }
 {
     let fields = octets::within(1, MOST_16, list.len()) & (list.len() % 2 == 0);
-    let answer = fit(WIDTH, fields, 3 + list.len(), out.len());
-    let count = count_of(answer);
-    if 0 < count {
-        putting::supported_profiles(version, list, count, out);
-    }
-    answer
+    let count = fit(WIDTH, fields.then_some(3 + list.len()), out.len())?;
+    putting::supported_profiles(version, list, count, out);
+    Ok(count)
 }
 
 // UnsupportedVersion: refusal 13.
-pub fn write_unsupported_version(version: u8, out: &mut [u8]) -> Write
+#[tactic(auto, using(crate::proofs::LengthLaws::version_answer, crate::proofs::OutputLaws::output_told, crate::proofs::OutputLaws::output_refused))]
+pub fn write_unsupported_version(version: u8, out: &mut [u8]) -> Result<usize, Refusal>
     ensures { Writes (M.unsupported_version version) out.old out.new (answer_of result) }
 {
-    let answer = fit(WIDTH, true, 1, out.len());
-    let count = count_of(answer);
-    if 0 < count {
-        putting::unsupported_version(version, count, out);
-    }
-    answer
-}
-
-// MediaKeys by the lengths of its fields.
-fn fit_media_keys(
-    identifier: usize,
-    mki: usize,
-    client_key: usize,
-    server_key: usize,
-    client_salt: usize,
-    server_salt: usize,
-    room: usize,
-) -> Write
-    ensures { answer_of result ≡ Steps.keys_answer identifier mki client_key server_key client_salt server_salt room }
-{
-    if octets::within(0, MOST_8, mki)
-        & octets::within(1, MOST_8, client_key)
-        & octets::within(1, MOST_8, server_key)
-        & octets::within(1, MOST_8, client_salt)
-        & octets::within(1, MOST_8, server_salt)
-    {
-        fit(
-            identifier,
-            true,
-            WIDTH + 7 + mki + client_key + server_key + client_salt + server_salt,
-            room,
-        )
-    } else {
-        fit(identifier, false, 0, room)
-    }
+    let count = fit(WIDTH, Some(1), out.len())?;
+    putting::unsupported_version(version, count, out);
+    Ok(count)
 }
 
 // MediaKeys: refusals 20; 5; 2; 13.
+#[tactic(auto, using(crate::proofs::LengthLaws::keys_answer_lem, crate::proofs::OutputLaws::output_told, crate::proofs::OutputLaws::output_refused))]
 pub fn write_media_keys(
     identifier: &[u8],
     profile: u16,
-    mki: &[u8],
-    client_key: &[u8],
-    server_key: &[u8],
-    client_salt: &[u8],
-    server_salt: &[u8],
+    keys: KeyFields<'_>,
     out: &mut [u8],
-) -> Write
-    ensures { Writes (M.media_keys identifier.now profile mki.now client_key.now server_key.now client_salt.now server_salt.now) out.old out.new (answer_of result) }
+) -> Result<usize, Refusal>
+    ensures { Writes (Keys.media_keys identifier.now profile keys.entry) out.old out.new (answer_of result) }
 {
-    let answer = fit_media_keys(
-        identifier.len(),
-        mki.len(),
-        client_key.len(),
-        server_key.len(),
-        client_salt.len(),
-        server_salt.len(),
-        out.len(),
-    );
-    let count = count_of(answer);
-    if 0 < count {
-        putting::media_keys(
-            identifier,
-            profile,
-            mki,
-            client_key,
-            server_key,
-            client_salt,
-            server_salt,
-            count,
-            out,
-        );
-    }
-    answer
+    let count = fit(identifier.len(), keys::body_length(keys), out.len())?;
+    putting::media_keys(identifier, profile, keys, count, out);
+    Ok(count)
 }
 
 // TunneledDtls: refusals 20; 5; 2; 13.
-pub fn write_tunneled_dtls(identifier: &[u8], dtls: &[u8], out: &mut [u8]) -> Write
+#[tactic(auto, using(crate::proofs::LengthLaws::dtls_answer, crate::proofs::OutputLaws::output_told, crate::proofs::OutputLaws::output_refused))]
+pub fn write_tunneled_dtls(identifier: &[u8], dtls: &[u8], out: &mut [u8]) -> Result<usize, Refusal>
     ensures { Writes (M.tunneled_dtls identifier.now dtls.now) out.old out.new (answer_of result) }
 {
     let fields = octets::within(1, MOST_16, dtls.len());
-    let answer = fit(identifier.len(), fields, WIDTH + 2 + dtls.len(), out.len());
-    let count = count_of(answer);
-    if 0 < count {
-        putting::tunneled_dtls(identifier, dtls, count, out);
-    }
-    answer
+    let body_length = fields.then_some(BODY_BEFORE_DTLS + dtls.len());
+    let count = fit(identifier.len(), body_length, out.len())?;
+    putting::tunneled_dtls(identifier, dtls, count, out);
+    Ok(count)
 }
 
 // EndpointDisconnect: refusals 20; 13.
-pub fn write_endpoint_disconnect(identifier: &[u8], out: &mut [u8]) -> Write
+#[tactic(auto, using(crate::proofs::LengthLaws::disconnect_answer, crate::proofs::OutputLaws::output_told, crate::proofs::OutputLaws::output_refused))]
+pub fn write_endpoint_disconnect(identifier: &[u8], out: &mut [u8]) -> Result<usize, Refusal>
     ensures { Writes (M.endpoint_disconnect identifier.now) out.old out.new (answer_of result) }
 {
-    let answer = fit(identifier.len(), true, WIDTH, out.len());
-    let count = count_of(answer);
-    if 0 < count {
-        putting::endpoint_disconnect(identifier, count, out);
-    }
-    answer
+    let count = fit(identifier.len(), Some(WIDTH), out.len())?;
+    putting::endpoint_disconnect(identifier, count, out);
+    Ok(count)
 }

@@ -1,66 +1,36 @@
-use mathlib.Core.Path.{◌≡◌, refl, ap, ◌∙◌}
+use Prim.Native.Nat.{ℕ, ◌+◌}
+use mathlib.Core.Path.{◌≡◌, sym, ap, ◌∙◌}
 use native.Mathlib.Omega.{arith}
 use borrow.Author.Rules.{rules}
-use lib.ListN.{length, take}
-use lib.Seq.{length-take-le}
-use Rattle.aes.specs.KeyExpansion.{key_expansion}
-use Rattle.aes.proofs.Filled.{whole}
-use Rattle.aes.proofs.ScheduleLaws.{key_stored, word_stored}
+use lib.ListN.{length, drop, replicate, length-append, length-set}
+use lib.Seq.{take-append-le, take_all}
+use Rattle.aes.specs.KeyExpansion.{schedule, key_expansion}
+use Rattle.aes.proofs.ScheduleLaws.{one_longer}
 use Rattle.aes.proofs.schedule.expand.Goals as goal
 
 pub loop-i-init : goal.loop-i-init
+unfolding schedule
 loop-i-init c =
-    let w = c.started-w.result in
-    let l : length w ≡ 176 = search rules in
-    let n : length (take 16 w) ≡ 16 = length-take-le 16 w (omega arith) in
-    (omega arith, n, key_stored (take 16 w) w n l refl)
-
-pub overflow_mul-w : goal.overflow_mul-w
-overflow_mul-w c = omega arith
-
-pub bounds-w-i : goal.bounds-w-i
-bounds-w-i c = omega arith
-
-pub overflow_mul-w-in-loop-i : goal.overflow_mul-w-in-loop-i
-overflow_mul-w-in-loop-i c = omega arith
-
-pub overflow_add-w : goal.overflow_add-w
-overflow_add-w c = omega arith
-
-pub bounds-w-i-in-loop-i : goal.bounds-w-i-in-loop-i
-bounds-w-i-in-loop-i c = omega arith
-
-pub overflow_mul-w-in-loop-i-2 : goal.overflow_mul-w-in-loop-i-2
-overflow_mul-w-in-loop-i-2 c = omega arith
-
-pub overflow_add-w-in-loop-i : goal.overflow_add-w-in-loop-i
-overflow_add-w-in-loop-i c = omega arith
-
-pub bounds-w-i-in-loop-i-2 : goal.bounds-w-i-in-loop-i-2
-bounds-w-i-in-loop-i-2 c = omega arith
-
-pub overflow_mul-w-in-loop-i-3 : goal.overflow_mul-w-in-loop-i-3
-overflow_mul-w-in-loop-i-3 c = omega arith
-
-pub overflow_add-w-in-loop-i-2 : goal.overflow_add-w-in-loop-i-2
-overflow_add-w-in-loop-i-2 c = omega arith
-
-pub bounds-w-i-in-loop-i-3 : goal.bounds-w-i-in-loop-i-3
-bounds-w-i-in-loop-i-3 c = omega arith
-
-pub overflow_add-i : goal.overflow_add-i
-overflow_add-i c = omega arith
-
-pub loop-i-smaller : goal.loop-i-smaller
-loop-i-smaller c = omega arith
+    let key = c.args.key in
+    let n : length key ≡ 16 = search rules in
+    let v = c.copy_from_slice.new.self in
+    let m : length v ≡ 16 = ap length c.copy_from_slice.ensures.after ∙ n in (
+      length-append v (drop 16 (replicate 176 0)) ∙ ap (λ (k : ℕ). k + 160) m,
+      rw c.copy_from_slice.ensures.after (take-append-le 16 key _ (omega arith) ∙ take_all 16 key (omega arith)),
+    )
 
 pub loop-i-preserved : goal.loop-i-preserved
 loop-i-preserved c =
     let l = c.loop-i in
-    let key = take 16 c.started-w.result in
-    (omega arith, l.invariant.1, word_stored key l.w l.i c.next_word-v.result l.invariant.1 l.invariant.0 c.loop-i-test.true l.invariant.2 c.next_word-v.ensures)
+    let k = l.invariant.0 in (
+      simp length-set k,
+      one_longer c.args.key l.w c.next_word-v.result l.i k (omega arith) (omega arith) l.invariant.1 c.next_word-v.ensures,
+    )
 
 pub returns : goal.returns
+unfolding key_expansion
 returns c =
     let l = c.loop-i in
-    whole l.invariant.2 (omega arith) ∙ ap key_expansion c.started-w.ensures
+    let e : l.i ≡ 44 = omega arith in
+    let k = l.invariant.0 in
+    sym (take_all 176 l.w (omega arith)) ∙ (rw e at l.invariant.1)

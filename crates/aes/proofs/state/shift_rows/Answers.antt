@@ -1,31 +1,10 @@
-use mathlib.Core.Path.{refl, sym}
-use native.Mathlib.Omega.{arith}
-use Rattle.aes.proofs.Entries.{shift_at, shift_long}
-use Rattle.aes.proofs.Filled.{none, more, whole}
+use borrow.Author.Rules.{rules}
+use Rattle.aes.proofs.Entries.{shift_at, shift_long, inv_shift_at, inv_shift_long}
+use Rattle.aes.proofs.Made.{made}
 use Rattle.aes.proofs.state.shift_rows.Goals as goal
 
-pub loop-i-init : goal.loop-i-init
-loop-i-init c = none (shift_long c.args.s) refl
+pub returns-clause-forward : goal.returns-clause-forward
+returns-clause-forward g c e = made c.from_fn.ensures.items (shift_long c.args.s) (rw (← e) at shift_at c.args.s) (λ i x q h k. search rules)
 
-pub overflow_mul-t : goal.overflow_mul-t
-overflow_mul-t c = omega arith
-
-pub bounds-s-i : goal.bounds-s-i
-bounds-s-i c = omega arith
-
-pub bounds-t-i : goal.bounds-t-i
-bounds-t-i c = omega arith
-
-pub overflow_add-i : goal.overflow_add-i
-overflow_add-i c = omega arith
-
-pub loop-i-smaller : goal.loop-i-smaller
-loop-i-smaller c = omega arith
-
-pub loop-i-preserved : goal.loop-i-preserved
-loop-i-preserved c =
-    let l = c.loop-i in
-    more l.invariant c.loop-i-test.true _ (sym (shift_at c.args.s l.i c.loop-i-test.true))
-
-pub returns : goal.returns
-returns c = whole c.loop-i.invariant c.loop-i-test.false
+pub returns-clause-back : goal.returns-clause-back
+returns-clause-back g c e = made c.from_fn.ensures.items (inv_shift_long c.args.s) (rw (← e) at inv_shift_at c.args.s) (λ i x q h k. search rules)

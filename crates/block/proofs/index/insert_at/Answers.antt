@@ -1,4 +1,5 @@
-use mathlib.Core.Path.{◌≡◌}
+use mathlib.Core.Path.{◌≡◌, ◌∙◌}
+use native.Mathlib.Omega.{arith}
 use mathlib.Core.List.{List, [], ◌∷◌}
 use Prim.Native.Nat.{ℕ, ◌+◌, ◌*◌}
 use Rattle.octets.specs.Word.{low_first32}
@@ -6,6 +7,7 @@ use Rattle.octets.specs.Number.{octets_of_16}
 use Rattle.octets.specs.Write.{over}
 use Rattle.rules.specs.Layout as Layout
 use Rattle.rules.specs.Index as Spec
+use Rattle.block.proofs.WordLaws.{bytes_low}
 use Rattle.block.proofs.index.insert_at.Goals as goal
 
 -- the three writings
@@ -16,4 +18,6 @@ inserted s x y z n at e p c f g h = rw (← c, ← f, ← g) h
 
 pub returns : goal.returns
 returns c =
-    inserted c.args.state.now _ _ _ c.count-n.result c.args.at c.args.endpoint c.args.place c.count-n.ensures c.enter.ensures c.enter-2.ensures c.put_count.ensures
+    let a = c.args in
+    let q = c.to_le_bytes.ensures ∙ bytes_low a.endpoint (omega arith) in
+    inserted a.state.now _ _ _ c.count-n.result a.at a.endpoint a.place c.count-n.ensures c.enter.ensures (rw q at c.enter-2.ensures) c.put_count.ensures

@@ -16,25 +16,25 @@ again s e x lo left looked seen next h i q r =
     let k : rounds - 1 - looked ≡ suc (rounds - 1 - (looked + 1)) = omega arith in
     rw (r, q) (i ∙ ap (λ (j : ℕ). halved j (index_endpoint s) e lo left) k ∙ halved_more (index_endpoint s) e lo left (rounds - 1 - (looked + 1)))
 
-pub loop-looked-init : goal.loop-looked-init
-loop-looked-init c = (omega arith, omega arith, omega arith, refl)
+pub loop-turn-init : goal.loop-turn-init
+loop-turn-init c = (omega arith, omega arith, refl, refl)
 
-pub loop-looked-preserved : goal.loop-looked-preserved
-loop-looked-preserved c =
-    let l = c.loop-looked in
+pub loop-turn-preserved : goal.loop-turn-preserved
+loop-turn-preserved c =
+    let l = c.loop-turn in
     let a = c.args in
     let w = nearer_within c.endpoint_at.result a.endpoint l.lo (l.lo + l.left / 2) (omega arith) in (
       omega (arith, c.nearer-lo.ensures, w, l.invariant.0),
       omega (arith, l.invariant.1),
-      omega (arith, c.loop-looked-test.true),
-      again _ a.endpoint _ l.lo l.left l.looked c.endpoint_at.result c.nearer-lo.result
-          c.loop-looked-test.true l.invariant.3 c.endpoint_at.ensures c.nearer-lo.ensures,
+      ap (λ (n : ℕ). n + 1) l.invariant.2,
+      again _ a.endpoint _ l.lo l.left l._turn c.endpoint_at.result c.nearer-lo.result
+          c.loop-turn-test.true l.invariant.3 c.endpoint_at.ensures c.nearer-lo.ensures,
     )
 
 pub returns : goal.returns
 returns c =
-    let l = c.loop-looked in
+    let l = c.loop-turn in
     let a = c.args in
-    let e : l.looked ≡ rounds - 1 = omega (arith, c.loop-looked-test.false, l.invariant.2) in
-    let z : rounds - 1 - l.looked ≡ 0 = omega arith in
-    (sym (l.invariant.3 ∙ ap (λ (j : ℕ). halved j (index_endpoint a.state.now) a.endpoint l.lo l.left) z ∙ halved_none _ a.endpoint l.lo l.left), e)
+    let e : l._turn ≡ rounds - 1 = omega arith in
+    let z : rounds - 1 - l._turn ≡ 0 = omega arith in
+    (sym (l.invariant.3 ∙ ap (λ (j : ℕ). halved j (index_endpoint a.state.now) a.endpoint l.lo l.left) z ∙ halved_none _ a.endpoint l.lo l.left), l.invariant.2 ∙ e)

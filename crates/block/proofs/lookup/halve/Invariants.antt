@@ -5,10 +5,7 @@ use Rattle.rules.specs.Limits.{places, rounds}
 use Rattle.rules.specs.Index.{index_endpoint}
 use Rattle.block.proofs.lookup.halve.Given as goal
 
-abbrev pub invariant-loop-looked : goal.invariant-loop-looked
-invariant-loop-looked l =
-    (l.lo + l.left ≤ places) × (0 < l.left) × (l.looked ≤ rounds - 1)
-    × (halved (rounds - 1) (index_endpoint l.state) l.endpoint 0 l.n ≡ halved (rounds - 1 - l.looked) (index_endpoint l.state) l.endpoint l.lo l.left)
-
-abbrev pub decreases-loop-looked : goal.decreases-loop-looked
-decreases-loop-looked l = rounds - 1 - l.looked
+abbrev pub invariant-loop-turn : goal.invariant-loop-turn
+invariant-loop-turn l =
+    (l.lo + l.left ≤ places) × (0 < l.left) × (l.looked ≡ l._turn)
+    × (halved (rounds - 1) (index_endpoint l.state) l.endpoint 0 l.n ≡ halved (rounds - 1 - l._turn) (index_endpoint l.state) l.endpoint l.lo l.left)

@@ -1,6 +1,5 @@
 use mathlib.Core.Path.{ap, ◌∙◌}
 use native.Mathlib.Omega.{arith}
-use borrow.Author.Rules.{rules}
 use Prim.Native.Nat.{ℕ}
 use Rattle.rules.specs.Halving.{settled}
 use Rattle.rules.proofs.IndexLaws.{count_within}
@@ -13,12 +12,12 @@ returns-then-n-eq0 c =
 
 pub nearest-near-requires : goal.nearest-near-requires
 nearest-near-requires c =
-    (search rules, omega (arith, c.if-n-eq0.false), omega (arith, c.count-n.ensures, count_within c.args.state.now))
+    (omega (arith, c.if-n-eq0.false), omega (arith, c.count-n.ensures, count_within c.args.state.now))
 
 pub endpoint_at-requires : goal.endpoint_at-requires
 endpoint_at-requires c =
     let n = c.count-n in
-    (search rules, Spots.left_room c.args.state.now c.args.endpoint n.result _ n.ensures (omega (arith, c.if-n-eq0.false)) c.nearest-near.ensures.0)
+    (Spots.left_room c.args.state.now c.args.endpoint n.result _ n.ensures (omega (arith, c.if-n-eq0.false)) c.nearest-near.ensures.0)
 
 pub settled-requires : goal.settled-requires
 settled-requires c =

@@ -14,25 +14,7 @@ whole : (s : List ℕ) (from size : ℕ) → from + size ≤ length s → length
 whole s from size h = part_length s from (from + size) h ∙ omega arith
 
 pub loop-i-init : goal.loop-i-init
-loop-i-init c = (omega arith, refl, paste-zero c.args.out.now c.args.at (part c.args.src.now c.args.from (c.args.from + c.args.size)))
-
-pub overflow_add-out : goal.overflow_add-out
-overflow_add-out c = omega arith
-
-pub bounds-src-from : goal.bounds-src-from
-bounds-src-from c = omega arith
-
-pub overflow_add-out-in-loop-i : goal.overflow_add-out-in-loop-i
-overflow_add-out-in-loop-i c = omega arith
-
-pub bounds-out-at : goal.bounds-out-at
-bounds-out-at c = omega arith
-
-pub overflow_add-i : goal.overflow_add-i
-overflow_add-i c = omega arith
-
-pub loop-i-smaller : goal.loop-i-smaller
-loop-i-smaller c = omega arith
+loop-i-init c = (refl, paste-zero c.args.out.now c.args.at (part c.args.src.now c.args.from (c.args.from + c.args.size)))
 
 pub loop-i-preserved : goal.loop-i-preserved
 loop-i-preserved c =
@@ -40,18 +22,14 @@ loop-i-preserved c =
     let i = c.loop-i.i in
     let s = part a.src.now a.from (a.from + a.size) in
     let n : length s ≡ a.size = whole a.src.now a.from a.size (omega arith) in (
-      omega arith,
       simp length-set (omega arith),
-      ap₂ (λ (l : List ℕ) (b : ℕ). set l (a.at + i) b) c.loop-i.invariant.2 (sym (octet_in a.src.now a.from a.size i (omega arith)))
+      ap₂ (λ (l : List ℕ) (b : ℕ). set l (a.at + i) b) c.loop-i.invariant.1 (sym (octet_in a.src.now a.from a.size i (omega arith)))
           ∙ (simp add-one (paste-suc a.out.now a.at s i 0 (omega arith) (omega arith))),
     )
-
-pub shape_of-out : goal.shape_of-out
-shape_of-out c = omega arith
 
 pub returns : goal.returns
 returns c =
     let a = c.args in
     let s = part a.src.now a.from (a.from + a.size) in
     let e : c.loop-i.i ≡ length s = omega (arith, whole a.src.now a.from a.size (omega arith)) in
-    c.loop-i.invariant.2 ∙ simp (e, take-length)
+    c.loop-i.invariant.1 ∙ simp (e, take-length)

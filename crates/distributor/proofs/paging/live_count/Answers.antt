@@ -5,19 +5,10 @@ use Rattle.status.proofs.PlaceLaws.{first_none}
 use Rattle.distributor.specs.Packing.{shown_to}
 use Rattle.distributor.proofs.PageLaws.{vacant_row_lem, live_length, all_rows}
 use Rattle.distributor.proofs.paging.live_count.Goals as goal
-use Rattle.distributor.proofs.paging.live_count.Goals.{then-state_at-ne0, else-state_at-ne0}
+use Rattle.distributor.proofs.paging.live_count.Goals.{then-state_at, else-state_at}
 
 pub loop-place-init : goal.loop-place-init
-loop-place-init c = (omega arith, omega arith, sym (ap length (first_none (shown_to c.args.state.now c.args.shown))))
-
-pub overflow_add-n : goal.overflow_add-n
-overflow_add-n c = omega arith
-
-pub overflow_add-place : goal.overflow_add-place
-overflow_add-place c = omega arith
-
-pub loop-place-smaller : goal.loop-place-smaller
-loop-place-smaller c = omega arith
+loop-place-init c = (omega arith, sym (ap length (first_none (shown_to c.args.state.now c.args.shown))))
 
 pub loop-place-preserved : goal.loop-place-preserved
 loop-place-preserved c =
@@ -25,15 +16,15 @@ loop-place-preserved c =
     let i = c.loop-place.place in
     let k = c.loop-place-test.true in
     let s = c.state_at.ensures in
-    elim c.if-state_at-ne0.branch [
-      | then-state_at-ne0 w ↦
-          let e = live_length a.state.now a.shown c.requires i k (λ z. w.if-state_at-ne0.true (s ∙ z)) in (omega arith, omega arith, omega arith)
-      | else-state_at-ne0 w ↦
-          let e = ap length (vacant_row_lem a.state.now a.shown c.requires i k (sym s ∙ w.if-state_at-ne0.false)) in (omega arith, omega arith, omega arith)
+    elim c.if-state_at.branch [
+      | then-state_at w ↦
+          let e = live_length a.state.now a.shown c.requires i k (λ z. w.if-state_at.true (s ∙ z)) in (omega arith, omega arith)
+      | else-state_at w ↦
+          let e = ap length (vacant_row_lem a.state.now a.shown c.requires i k (sym s ∙ w.if-state_at.false)) in (omega arith, omega arith)
     ]
 
 pub returns : goal.returns
 returns c =
     let a = c.args in
     let l = c.loop-place in
-    l.invariant.2 ∙ ap length (all_rows a.state.now a.shown c.requires l.place (omega arith))
+    l.invariant.1 ∙ ap length (all_rows a.state.now a.shown c.requires l.place (omega arith))

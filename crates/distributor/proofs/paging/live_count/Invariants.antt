@@ -1,4 +1,4 @@
-use Prim.Native.Nat.{◌-◌, ◌≤◌}
+use Prim.Native.Nat.{◌≤◌}
 use mathlib.Core.Path.{◌≡◌}
 use lib.ListN.{length}
 use Rattle.status.proofs.PlaceLaws.{first_of}
@@ -6,7 +6,4 @@ use Rattle.distributor.specs.Packing.{shown_to}
 use Rattle.distributor.proofs.paging.live_count.Given as goal
 
 abbrev pub invariant-loop-place : goal.invariant-loop-place
-invariant-loop-place l = (l.place ≤ l.shown) × (l.n ≤ l.place) × (l.n ≡ length (first_of (shown_to l.state l.shown) l.place))
-
-abbrev pub decreases-loop-place : goal.decreases-loop-place
-decreases-loop-place l = l.shown - l.place
+invariant-loop-place l = (l.n ≤ l.place) × (l.n ≡ length (first_of (shown_to l.state l.shown) l.place))

@@ -1,15 +1,19 @@
 use mathlib.Core.Path.{ap, ◌∙◌}
+use borrow.Author.Tests.{ltb-true}
 use Rattle.rules.specs.Layout.{endpoint_of}
-use Rattle.rules.specs.Table as Spec
+use Rattle.distributor.proofs.CheckLaws.{passed_on}
 use Rattle.distributor.proofs.ReceivingLaws.{disconnected, not_disconnected}
 use Rattle.distributor.proofs.receiving.disconnect.Goals as goal
 
-pub returns-then-place-lt-PLACES : goal.returns-then-place-lt-PLACES
-returns-then-place-lt-PLACES c =
-    let a = c.args in
-    disconnected a.state.now a.s.now a.taken c.place_of_identifier-place.result (c.place_of_identifier-place.ensures ∙ ap (Spec.place_of_identifier a.state.now) c.identifier-identifier.ensures.octets) _ c.if-place-lt-PLACES.true (c.endpoint_of-endpoint.ensures ∙ ap endpoint_of c.row_at.ensures.octets) c.put_vacant.ensures
+pub put_vacant-requires : goal.put_vacant-requires
+put_vacant-requires c = let f = c.in_ok-place.ensures in rw f.1 (ltb-true _ _ f.0)
 
-pub returns-else-place-lt-PLACES : goal.returns-else-place-lt-PLACES
-returns-else-place-lt-PLACES c =
+pub returns-in_err-place : goal.returns-in_err-place
+returns-in_err-place c =
     let a = c.args in
-    not_disconnected a.state.now a.s.now a.taken c.place_of_identifier-place.result (c.place_of_identifier-place.ensures ∙ ap (Spec.place_of_identifier a.state.now) c.identifier-identifier.ensures.octets) c.if-place-lt-PLACES.false
+    not_disconnected a.state.now a.s.now _ a.taken c.identifier.ensures.octets _ _ (passed_on _ _ c.from_residual.ensures.1) c.in_err-place.ensures
+
+pub returns : goal.returns
+returns c =
+    let a = c.args in
+    disconnected a.state.now a.s.now _ a.taken c.identifier.ensures.octets _ _ c.in_ok-place.ensures (c.endpoint_of-endpoint.ensures ∙ ap endpoint_of c.row_at.ensures.octets) c.put_vacant.ensures

@@ -1,25 +1,16 @@
-use Prim.Native.Nat.{◌+◌}
-use mathlib.Core.Path.{refl, sym, ap, ◌∙◌}
-use Rattle.message.specs.Limits.{header}
-use Rattle.message.specs.Body.{content, content_of}
+use mathlib.Core.Path.{ap, ◌∙◌}
+use Rattle.message.specs.Body.{content}
 use Rattle.message.specs.Read.{body_answer}
-use Rattle.distributor.proofs.ReceivingLaws.{of_reading}
+use Rattle.distributor.proofs.CheckLaws.{passed_on}
+use Rattle.distributor.proofs.ReceivingLaws.{of_reading, body_refused}
 use Rattle.distributor.proofs.receiving.take_body.Goals as goal
 
-pub returns-in-Unlisted : goal.returns-in-Unlisted
-returns-in-Unlisted c =
+pub returns-in_err-fields : goal.returns-in_err-fields
+returns-in_err-fields c =
     let a = c.args in
-    let n = a.body_length in
-    of_reading a.state.now a.s.now (ap (body_answer (header + n)) (ap content_of (sym c.in-Unlisted.is) ∙ c.read_body.ensures ∙ ap (content a.kind) c.part.ensures.octets)) (refl, refl)
+    body_refused a.state.now a.s.now a.kind _ a.taken _ _ (passed_on _ _ c.from_residual.ensures.1) (c.in_err-fields.ensures ∙ ap (content a.kind) c.part.ensures.octets)
 
-pub returns-in-Bad : goal.returns-in-Bad
-returns-in-Bad c =
+pub returns : goal.returns
+returns c =
     let a = c.args in
-    let n = a.body_length in
-    of_reading a.state.now a.s.now (ap (body_answer (header + n)) (ap content_of (sym c.in-Bad.is) ∙ c.read_body.ensures ∙ ap (content a.kind) c.part.ensures.octets)) (refl, refl)
-
-pub returns-in-Good : goal.returns-in-Good
-returns-in-Good c =
-    let a = c.args in
-    let n = a.body_length in
-    of_reading a.state.now a.s.now (ap (body_answer (header + n)) (ap content_of (sym c.in-Good.is) ∙ c.read_body.ensures ∙ ap (content a.kind) c.part.ensures.octets)) c.take_fields.ensures
+    of_reading a.state.now a.s.now (ap (body_answer a.taken) (c.in_ok-fields.ensures ∙ ap (content a.kind) c.part.ensures.octets)) c.take_message.ensures

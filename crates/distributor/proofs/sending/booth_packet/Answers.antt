@@ -1,16 +1,17 @@
 use Rattle.rules.specs.Table.{answer}
-use Rattle.distributor.proofs.Sendable.{packet_done, packet_refused}
+use Rattle.distributor.proofs.CheckLaws.{passed_on}
+use Rattle.distributor.proofs.Sendable.{packet_sent, packet_refused}
 use Rattle.distributor.proofs.sending.booth_packet.Goals as goal
 
-pub returns-in-Allowed : goal.returns-in-Allowed
+pub returns-in_err-place : goal.returns-in_err-place
 unfolding answer
-returns-in-Allowed c =
+returns-in_err-place c =
     let a = c.args in
-    let k = c.check_packet in
-    packet_done a.state.now k.ensures.0 a.endpoint a.packet.now a.out.now c.in-Allowed.is k.ensures.1 _ _ _ c.write_tunneled_dtls.ensures.1 c.array16-identifier.ensures c.row_at.ensures.octets
+    packet_refused a.state.now a.endpoint a.packet.now a.out.now _ (passed_on _ _ c.from_residual.ensures.1) c.in_err-place.ensures.1
 
-pub returns-in-Refused : goal.returns-in-Refused
+pub returns : goal.returns
 unfolding answer
-returns-in-Refused c =
+returns c =
     let a = c.args in
-    packet_refused a.state.now a.endpoint a.packet.now a.out.now _ c.in-Refused.is c.check_packet.ensures.1
+    let k = c.in_ok-place.ensures in
+    packet_sent a.state.now k.0 a.endpoint a.packet.now a.out.now _ k.1 _ _ _ _ c.write_tunneled_dtls.ensures c.array-identifier.ensures c.row_at.ensures.octets

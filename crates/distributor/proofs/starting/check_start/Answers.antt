@@ -1,4 +1,4 @@
-use mathlib.Core.Path.{sym, ap, ◌∙◌}
+use mathlib.Core.Path.{refl, sym, ap, ◌∙◌}
 use borrow.Author.Tests.{lt-ltb, le-ltb}
 use mathlib.Core.Bool.{not}
 use Rattle.rules.specs.Table as Spec
@@ -7,16 +7,16 @@ use Rattle.distributor.proofs.starting.check_start.Goals as goal
 
 pub returns-then-is_up : goal.returns-then-is_up
 unfolding Spec.start_verdict
-returns-then-is_up c = rw (c.refused.ensures, sym c.is_up.ensures ∙ c.if-is_up.true)
+returns-then-is_up c = rw (sym c.is_up.ensures ∙ c.if-is_up.true) refl
 
 pub returns-then-not-good_list : goal.returns-then-not-good_list
 unfolding Spec.start_verdict
-returns-then-not-good_list c = rw (c.refused-then-not-good_list.ensures, sym c.is_up.ensures ∙ c.if-is_up.false, ap not (sym c.good_list.ensures ∙ c.if-not-good_list.true))
+returns-then-not-good_list c = rw (sym c.is_up.ensures ∙ c.if-is_up.false, ap not (sym c.good_list.ensures ∙ c.if-not-good_list.true)) refl
 
 pub returns-then-room-list : goal.returns-then-room-list
 unfolding Spec.start_verdict
-returns-then-room-list c = rw (c.refused-then-room-list.ensures, sym c.is_up.ensures ∙ c.if-is_up.false, ap not (sym c.good_list.ensures ∙ c.if-not-good_list.false), start_length c.args.list.now, lt-ltb _ _ c.if-room-list.true)
+returns-then-room-list c = rw (sym c.is_up.ensures ∙ c.if-is_up.false, ap not (sym c.good_list.ensures ∙ c.if-not-good_list.false), start_length c.args.list.now, lt-ltb _ _ c.if-room-list.true) refl
 
 pub returns : goal.returns
 unfolding Spec.start_verdict
-returns c = rw (sym c.is_up.ensures ∙ c.if-is_up.false, ap not (sym c.good_list.ensures ∙ c.if-not-good_list.false), start_length c.args.list.now, le-ltb _ _ c.if-room-list.false)
+returns c = rw (sym c.is_up.ensures ∙ c.if-is_up.false, ap not (sym c.good_list.ensures ∙ c.if-not-good_list.false), start_length c.args.list.now, le-ltb _ _ c.if-room-list.false) (refl, refl)

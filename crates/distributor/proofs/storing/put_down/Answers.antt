@@ -1,8 +1,9 @@
-use mathlib.Core.Path.{sym, ap, ◌∙◌}
+use mathlib.Core.Path.{◌≡◌, sym, ap, ◌∙◌}
+use borrow.Author.Rules.{rules}
 use native.Mathlib.Omega.{arith}
 use mathlib.Core.List.{[]}
 use Prim.Native.Nat.{ℕ}
-use lib.ListN.{length-replicate}
+use lib.ListN.{length, length-replicate}
 use Rattle.rules.specs.Layout as L
 use Rattle.octets.specs.Write.{over}
 use Rattle.rows.proofs.PadLaws.{padded_none, padded_put, over_all}
@@ -13,4 +14,5 @@ pub returns : goal.returns
 unfolding L.down_block
 returns c =
     let a = c.args in
-    c.put_padded.ensures ∙ padded_put a.state.now [] 0 block_length (omega (arith, c.requires)) ∙ ap (over a.state.now 0) (padded_none block_length) ∙ over_all a.state.now _ (length-replicate {A = ℕ} block_length 0 ∙ sym c.requires)
+    let n : length a.state.now ≡ block_length = search rules in
+    c.put_padded.ensures ∙ padded_put a.state.now [] 0 block_length (omega arith) ∙ ap (over a.state.now 0) (padded_none block_length) ∙ over_all a.state.now _ (length-replicate {A = ℕ} block_length 0 ∙ sym n)

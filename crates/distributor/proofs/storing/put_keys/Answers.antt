@@ -2,9 +2,10 @@ use mathlib.Core.Path.{◌≡◌, sym, ap, ◌∙◌}
 use native.Mathlib.Omega.{arith}
 use Prim.Native.Nat.{ℕ, ◌+◌, ◌*◌, ◌-◌}
 use mathlib.Core.List.{List}
-use lib.ListN.{take, drop}
+use borrow.Author.Rules.{rules}
+use lib.ListN.{length, take, drop}
 use Rattle.octets.specs.Part.{part}
-use Rattle.rules.specs.Keys.{keys_in}
+use Rattle.rows.specs.ReadKeys.{keys_read}
 use Rattle.rules.specs.Layout as L
 use Rattle.rules.specs.Layout.{row_length}
 use Rattle.rules.proofs.RowLaws.{keyed_row_length}
@@ -17,10 +18,11 @@ pub returns : goal.returns
 unfolding L.with_row part
 returns c =
     let a = c.args in
-    let p = c.requires in
     let s = a.state.now in
+    let p = c.requires in
+    let size : length s ≡ L.block_length = search rules in
     let at = a.place * row_length in
-    let k = keys_in a.s.now a.profile a.lengths in
-    let row : take (at + row_length - at) (drop at s) ≡ L.row_of s a.place = sym (row_part s a.place p.1) in
-    lent_row s (L.keyed_row k (L.row_of s a.place)) _ at (omega (arith, p)) (keyed_row_length k (L.row_of s a.place) (row_length_lem s record { size = p.0 } a.place p.1))
+    let k = keys_read a.keys in
+    let row : take (at + row_length - at) (drop at s) ≡ L.row_of s a.place = sym (row_part s a.place p) in
+    lent_row s (L.keyed_row k (L.row_of s a.place)) _ at (omega (arith, p, size)) (keyed_row_length k (L.row_of s a.place) (row_length_lem s record { size = size } a.place p))
     (c.key_row.ensures ∙ ap (λ (r : List ℕ). on_row (take (at + row_length - at) (drop at s)) (L.keyed_row k r)) row)

@@ -1,4 +1,5 @@
 use native.Mathlib.Omega.{arith}
+use borrow.Author.Rules.{rules}
 use mathlib.Core.Path.{◌≡◌, refl, sym, ap, ap₂, ◌∙◌}
 use Prim.Native.Nat.{ℕ, ◌+◌, ◌-◌, ◌≤◌}
 use mathlib.Core.List.{List, [], ◌∷◌, ◌++◌, append_assoc}
@@ -62,7 +63,7 @@ pub returns : goal.returns
 returns c =
     let o = c.args.state.now in
     let z = L.padded block_length [] in
-    let n : length o ≡ block_length = c.requires.0 in
+    let n : length o ≡ block_length = search rules in
     let m : length z ≡ block_length = padded_length block_length [] in
     let w = wrote_put z (wrote_none o) (omega arith) c.put_padded.ensures in
     started _ _ _ _ c.args.list.now (wrote_all w (omega arith) ∙ padded_none block_length)

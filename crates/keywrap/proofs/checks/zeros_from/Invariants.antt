@@ -1,14 +1,10 @@
-use Prim.Native.Nat.{◌-◌, ◌≤◌}
 use mathlib.Core.Path.{◌≡◌}
 use mathlib.Core.Bool.{◌&&◌}
 use lib.Dec.{eqb}
-use lib.ListN.{length, take, drop}
+use lib.ListN.{take, drop}
 use Rattle.keywrap.specs.Padding.{zeros}
 use Rattle.keywrap.proofs.checks.zeros_from.Given as goal
 
 -- What was found so far.
 abbrev pub invariant-loop-i : goal.invariant-loop-i
-invariant-loop-i l = (l.i ≤ length l.x) × (eqb l.bad 0 ≡ (eqb l.found 0 && zeros (drop l.from (take l.i l.x))))
-
-abbrev pub decreases-loop-i : goal.decreases-loop-i
-decreases-loop-i l = length l.x - l.i
+invariant-loop-i l = eqb l.bad 0 ≡ (eqb l.found 0 && zeros (drop l.from (take l.i l.x)))

@@ -1,36 +1,27 @@
-use mathlib.Core.Path.{◌≡◌, refl, sym, ◌∙◌}
+use Prim.Native.Nat.{ℕ, ◌-◌}
+use mathlib.Core.Path.{◌≡◌, refl, sym, ap, ◌∙◌}
+use mathlib.Core.List.{List}
 use native.Mathlib.Omega.{arith}
-use Rattle.keywrap.specs.KeyWrap.{unwrap_steps}
-use Rattle.keywrap.proofs.CodeLaws.{unwrap_less}
+use Rattle.aes.specs.Cipher.{inv_cipher}
+use Rattle.keywrap.specs.KeyWrap.{xor_count, unwrap_step, unwrap_steps}
+use Rattle.keywrap.proofs.CodeLaws.{stepped, unwrap_less}
 use Rattle.keywrap.proofs.process.unwrap_steps.Goals as goal
 
 pub loop-t-init : goal.loop-t-init
-loop-t-init c = (omega arith, refl, refl)
-
-pub unwrap_step-requires : goal.unwrap_step-requires
-unwrap_step-requires c = omega arith
-
-pub overflow_sub-t : goal.overflow_sub-t
-overflow_sub-t c = omega arith
-
-pub loop-t-smaller : goal.loop-t-smaller
-loop-t-smaller c = omega arith
+loop-t-init c = refl
 
 pub loop-t-preserved : goal.loop-t-preserved
+unfolding unwrap_step
 loop-t-preserved c =
     let l = c.loop-t in
-    let w = c.args.w.now in (
-      omega arith,
-      omega arith,
-      rw c.unwrap_step.ensures (sym (unwrap_less w l.t l.x c.loop-t-test.true) ∙ l.invariant.2),
-    )
-
-pub shape_of-x : goal.shape_of-x
-shape_of-x c = omega arith
+    let t = l.t-counter in
+    let w = c.args.w.now in
+    let s = c.step.ensures in
+    ap (unwrap_steps w (t - 1)) (stepped t (λ (b : List ℕ). inv_cipher w (xor_count t b)) l.x c.step.new.x s.0 s.1.1 s.2) ∙ sym (unwrap_less w t l.x (omega arith)) ∙ l.invariant
 
 pub returns : goal.returns
 unfolding unwrap_steps
 returns c =
     let l = c.loop-t in
-    let e : l.t ≡ 0 = omega arith in
-    rw e at l.invariant.2
+    let e : l.t-counter ≡ 0 = omega arith in
+    rw e at l.invariant

@@ -1,23 +1,15 @@
-use Prim.Native.Nat.{◌+◌, ◌-◌, ◌≤◌}
-use mathlib.Core.Path.{◌≡◌, refl, sym, ap, ◌∙◌}
-use mathlib.Core.Bool.{true, false}
+use Prim.Native.Nat.{ℕ, ◌+◌, ◌-◌, ◌≤◌}
+use mathlib.Core.Path.{◌≡◌, sym, ap, ◌∙◌}
+use mathlib.Core.List.{List, ◌++◌}
+use mathlib.Core.Bool.{true}
 use native.Mathlib.Omega.{arith}
-use lib.ListN.{length}
-use Rattle.octets.proofs.WriteLaws.{put_whole}
+use lib.ListN.{length, drop}
 use Rattle.keywrap.specs.Padding.{mli, verified, plaintext_in}
 use Rattle.keywrap.specs.Calls.{Answer, refused, written, output_after}
 use Rattle.keywrap.proofs.WholeLaws.{whole_of}
 use Rattle.keywrap.proofs.PaddingLaws.{bounds, plaintext_long}
-use Rattle.keywrap.proofs.CallLaws.{settled, take_refused, take_no_room, take_room}
-use Rattle.keywrap.proofs.CodeLaws.{over_front}
+use Rattle.keywrap.proofs.CallLaws.{settled, take_no_room, take_room}
 use Rattle.keywrap.proofs.unwrapping.take_plaintext.Goals as goal
-
-pub returns-then-not-verified : goal.returns-then-not-verified
-returns-then-not-verified c =
-    let a = c.args in
-    let x = a.x.now in
-    let v : verified x ≡ false = sym c.verified.ensures ∙ c.if-not-verified.true in
-    settled (refused 22) (plaintext_in x) a.out.now (take_refused x (length a.out.now) v)
 
 pub returns-then-out-m : goal.returns-then-out-m
 returns-then-out-m c =
@@ -28,8 +20,8 @@ returns-then-out-m c =
     let l = plaintext_long x w (omega arith) v in
     settled (refused 13) (plaintext_in x) a.out.now (take_no_room x (length a.out.now) v (omega (arith, l, c.mli-m.ensures)))
 
-pub slice_bounds-put_octets-end : goal.slice_bounds-put_octets-end
-slice_bounds-put_octets-end c =
+pub slice_bounds-copy_from_slice-end-3 : goal.slice_bounds-copy_from_slice-end-3
+slice_bounds-copy_from_slice-end-3 c =
     let x = c.args.x.now in
     let v : verified x ≡ true = sym c.verified.ensures ∙ c.if-not-verified.false in
     let w = whole_of x (omega arith) (omega arith) (λ i. omega (arith, c.type_inv.x i)) in
@@ -50,7 +42,6 @@ returns c =
     let n : 8 + m - 8 ≡ mli x = omega arith in
     let f = take_room x (length o) v (omega (arith, c.if-out-m.false)) in (
       ap written (e ∙ sym l) ∙ sym f,
-      c.put_octets.ensures.1
-          ∙ rw n (put_whole o 0 (plaintext_in x) (omega (arith, c.if-out-m.false)) ∙ over_front o (plaintext_in x) (length (plaintext_in x)) refl)
+      ap (λ (y : List ℕ). y ++ drop m o) (rw n at c.copy_from_slice.ensures.after) ∙ ap (λ (k : ℕ). plaintext_in x ++ drop k o) (e ∙ sym l)
           ∙ ap (λ (v : Answer). output_after v (plaintext_in x) o) (sym f),
     )

@@ -1,31 +1,18 @@
 use Prim.Native.Nat.{ℕ}
 use mathlib.Core.Path.{◌≡◌, sym, ap, ◌∙◌}
-use mathlib.Core.Bool.{true, false}
+use mathlib.Core.Bool.{true}
 use mathlib.Core.List.{List}
 use native.Mathlib.Omega.{arith}
 use lib.ListN.{length, replicate}
 use lib.Seq.{length-take-le}
+use Rattle.aes.specs.KeyExpansion.{key_expansion}
 use Rattle.keywrap.specs.Padding.{length_fits, unwrap_registers, plaintext_in, unwrap}
-use Rattle.keywrap.specs.Calls.{Answer, refused, unwrapping, output_after, unwrapped_answer}
+use Rattle.keywrap.specs.Calls.{Answer, unwrapping, output_after, answer_of}
 use Rattle.keywrap.specs.Inner.{taking}
 use Rattle.keywrap.proofs.PaddingLaws.{fitting_most}
 use Rattle.keywrap.proofs.CodeLaws.{relent}
-use Rattle.keywrap.proofs.CallLaws.{settled, when_other_length, not_fitting, when_fitting}
+use Rattle.keywrap.proofs.CallLaws.{when_fitting}
 use Rattle.keywrap.proofs.unwrapping.unwrap_lent.Goals as goal
-
-pub returns-then-key-ne-KEY : goal.returns-then-key-ne-KEY
-returns-then-key-ne-KEY c =
-    let a = c.args in
-    settled (refused 34) (unwrap a.key.now a.c.now) a.out.now (when_other_length a.key.now a.c.now (length a.out.now) c.if-key-ne-KEY.true)
-
-pub returns-then-not-length_fits : goal.returns-then-not-length_fits
-returns-then-not-length_fits c =
-    let a = c.args in
-    let f : length_fits (length a.c.now) ≡ false = sym c.length_fits.ensures ∙ c.if-not-length_fits.true in
-    settled (refused 22) (unwrap a.key.now a.c.now) a.out.now (not_fitting a.key.now a.c.now (length a.out.now) (omega arith) f)
-
-pub slice_bounds-x-end : goal.slice_bounds-x-end
-slice_bounds-x-end c = fitting_most (length c.args.c.now) (sym c.length_fits.ensures ∙ c.if-not-length_fits.false)
 
 pub slice_bounds-unwrap_in-end : goal.slice_bounds-unwrap_in-end
 slice_bounds-unwrap_in-end c =
@@ -48,9 +35,6 @@ slice_bounds-forget-end c =
 pub forget-requires : goal.forget-requires
 forget-requires c = let l = slice_bounds-forget-end c in (omega arith, omega arith)
 
-pub cleared-requires : goal.cleared-requires
-cleared-requires c = c.forget.ensures.0
-
 pub returns : goal.returns
 unfolding unwrap
 returns c =
@@ -58,9 +42,10 @@ returns c =
     let k = a.c.now in
     let o = a.out.now in
     let f : length_fits (length k) ≡ true = sym c.length_fits.ensures ∙ c.if-not-length_fits.false in
-    let t = ap (λ (w : List ℕ). taking (unwrap_registers w k) (length o)) c.load_schedule.ensures ∙ sym (when_fitting a.key.now k (length o) (omega arith) f) in (
-      ap unwrapped_answer c.cleared.ensures ∙ c.unwrap_in-answer.ensures.0 ∙ t,
+    let s = c.load_schedule.ensures ∙ ap key_expansion c.in-Some.ensures.cases.same in
+    let t = ap (λ (w : List ℕ). taking (unwrap_registers w k) (length o)) s ∙ sym (when_fitting a.key.now k (length o) c.in-Some.ensures.cases.long f) in (
+      ap answer_of c.cleared.ensures ∙ c.unwrap_in-answer.ensures.0 ∙ t,
       c.unwrap_in-answer.ensures.1
           ∙ ap (λ (v : Answer). output_after v (plaintext_in (unwrap_registers c.load_schedule.new.w k)) o) t
-          ∙ ap (λ (w : List ℕ). output_after (unwrapping a.key.now k (length o)) (plaintext_in (unwrap_registers w k)) o) c.load_schedule.ensures,
+          ∙ ap (λ (w : List ℕ). output_after (unwrapping a.key.now k (length o)) (plaintext_in (unwrap_registers w k)) o) s,
     )

@@ -12,7 +12,7 @@ wrap_registers-requires c =
     let p = c.args.plaintext.now in
     let l : length (initial_registers p) ≡ 8 + (length p + (8 - length p % 8) % 8) = initial_long p (omega arith) (omega arith) in
     let e = ap length c.load.ensures in
-    (omega arith, omega arith, omega arith)
+    (omega arith, (omega arith, omega arith))
 
 pub returns : goal.returns
 unfolding wrap

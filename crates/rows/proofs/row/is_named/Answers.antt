@@ -12,8 +12,8 @@ returns-then-same c =
     let a = c.args in
     c.is_live.ensures ∙ second_holds _ (ap (λ (l : List ℕ). same l a.identifier.now) (sym c.identifier_of.ensures) ∙ sym c.same.ensures ∙ c.if-same.true)
 
-pub returns : goal.returns
+pub returns-else-same : goal.returns-else-same
 unfolding L.named
-returns c =
+returns-else-same c =
     let a = c.args in
-    second_fails (L.live a.row.now) (ap (λ (l : List ℕ). same l a.identifier.now) (sym c.identifier_of.ensures) ∙ sym c.same.ensures ∙ c.if-same.false)
+    c.if-same.false ∙ second_fails (L.live a.row.now) (ap (λ (l : List ℕ). same l a.identifier.now) (sym c.identifier_of.ensures) ∙ sym c.same.ensures ∙ c.if-same.false)

@@ -1,13 +1,17 @@
-use mathlib.Core.List.{◌∷◌, ◌++◌}
-use Rattle.octets.specs.Number.{octets16, octets_of_32}
-use native.Mathlib.Omega.{arith}
-use Prim.Native.Nat.{◌+◌}
+use Prim.Native.Nat.{ℕ, ◌+◌}
+use mathlib.Core.Path.{◌≡◌, ap, ◌∙◌}
+use mathlib.Core.List.{[], ◌∷◌, ◌++◌}
 use lib.ListN.{length}
-use Rattle.service.proofs.FrameLaws.{in_three, framed}
+use native.Mathlib.Omega.{arith}
+use Rattle.octets.specs.Number.{octets16, octets_of_32}
+use Rattle.octets.specs.Write.{over}
+use Rattle.service.proofs.FrameLaws.{headed_twice}
 use Rattle.service.proofs.answers.delivery.Goals as goal
 
 pub returns : goal.returns
 returns c =
     let a = c.args in
-    framed a.out.now ((7 ∷ octets16 a.taken) ++ octets_of_32 a.endpoint ++ a.dtls.now) (7 + length a.dtls.now) (omega arith)
-    (in_three a.out.now (octets16 (7 + length a.dtls.now) ++ 7 ∷ octets16 a.taken) (octets_of_32 a.endpoint) a.dtls.now (omega arith) (omega arith) c.numbered-a.ensures c.put_endpoint-b.ensures c.put_octets.ensures)
+    let front = octets16 a.taken ++ octets_of_32 a.endpoint in
+    let n : 6 + length a.dtls.now ≡ length (front ++ a.dtls.now) = omega arith in
+    headed_twice a.out.now 7 front a.dtls.now c.named-front.ensures (omega arith)
+    (c.put_head.ensures ∙ ap (λ (k : ℕ). over a.out.now 0 (octets16 (1 + k) ++ 7 ∷ [])) n) c.put_octets-at.ensures c.put_octets.ensures

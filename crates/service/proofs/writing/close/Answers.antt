@@ -1,16 +1,10 @@
 use Rattle.rules.specs.Table.{answer, step}
-use Rattle.service.proofs.WritingLaws.{close_fits, close_served}
+use Rattle.service.proofs.WritingLaws.{close_served}
 use borrow.Author.Rules.{rules}
 use Rattle.service.proofs.writing.close.Goals as goal
-
-pub sent-requires : goal.sent-requires
-unfolding answer step
-sent-requires c =
-    let a = c.args in
-    (search rules, close_fits a.state.now a.out.now _ c.requires c.close-sent.result a.body.now c.close-sent.ensures.0 (search rules))
 
 pub returns : goal.returns
 unfolding answer step
 returns c =
     let a = c.args in
-    close_served a.state.now a.out.now _ c.requires c.close-sent.result a.body.now c.close-sent.ensures.0 c.close-sent.ensures.1 c.sent.ensures
+    close_served a.state.now a.out.now _ (search rules) c.close-sent.result a.body.now c.close-sent.ensures.0 c.close-sent.ensures.1 c.sent.ensures

@@ -1,16 +1,10 @@
 use Rattle.rules.specs.Table.{answer}
-use Rattle.service.proofs.WritingLaws.{packet_fits, packet_replied}
+use Rattle.service.proofs.WritingLaws.{packet_replied}
 use borrow.Author.Rules.{rules}
 use Rattle.service.proofs.writing.send_packet.Goals as goal
-
-pub sent-requires : goal.sent-requires
-unfolding answer
-sent-requires c =
-    let a = c.args in
-    (search rules, packet_fits a.state.now a.out.now _ c.requires c.booth_packet-sent.result _ _ c.booth_packet-sent.ensures (search rules))
 
 pub returns : goal.returns
 unfolding answer
 returns c =
     let a = c.args in
-    packet_replied a.state.now a.out.now _ c.requires c.booth_packet-sent.result a.endpoint a.packet.now c.booth_packet-sent.ensures c.sent.ensures
+    packet_replied a.state.now a.out.now _ (search rules) c.booth_packet-sent.result a.endpoint a.packet.now c.booth_packet-sent.ensures c.sent.ensures

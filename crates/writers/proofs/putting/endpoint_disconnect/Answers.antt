@@ -1,11 +1,6 @@
 use Rattle.message.specs.Message as M
-use Rattle.writers.proofs.Pieces.{header_fits, first, piece, whole}
+use Rattle.writers.proofs.Pieces.{first, piece, whole}
 use Rattle.writers.proofs.putting.endpoint_disconnect.Goals as goal
-
-pub put_header-a-requires : goal.put_header-a-requires
-put_header-a-requires c =
-    let a = c.args in
-    header_fits (M.endpoint_disconnect a.identifier.now) a.out.now c.requires
 
 pub returns : goal.returns
 returns c =

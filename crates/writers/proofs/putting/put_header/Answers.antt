@@ -6,15 +6,9 @@ use Rattle.octets.specs.Number.{octets16}
 use Rattle.message.specs.Limits.{header}
 use Rattle.writers.proofs.putting.put_header.Goals as goal
 
-pub overflow_sub-count : goal.overflow_sub-count
-overflow_sub-count c = omega (arith, c.requires)
-
-pub overflow_cast-count : goal.overflow_cast-count
-overflow_cast-count c = omega (arith, c.requires)
-
 pub returns : goal.returns
 returns c =
     let a = c.args in
-    let w = wrote_more (a.message_type ∷ []) (wrote_none a.out.now) (omega (arith, c.requires)) c.put_octet-at.ensures.0 c.put_octet-at.ensures.1 in
+    let w = wrote_more (c.from.result ∷ []) (wrote_none a.out.now) (omega (arith, c.requires)) c.put_octet-at.ensures.0 c.put_octet-at.ensures.1 in
     let v = wrote_more (octets16 (a.count - header)) w (omega (arith, c.requires)) c.put_number16.ensures.0 c.put_number16.ensures.1 in
-    (v.offset, v.output)
+    rw (← c.from.ensures) (v.offset, v.output)

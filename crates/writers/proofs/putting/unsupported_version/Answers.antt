@@ -1,12 +1,7 @@
 use mathlib.Core.List.{[], ◌∷◌}
 use Rattle.message.specs.Message as M
-use Rattle.writers.proofs.Pieces.{header_fits, first, piece, whole}
+use Rattle.writers.proofs.Pieces.{first, piece, whole}
 use Rattle.writers.proofs.putting.unsupported_version.Goals as goal
-
-pub put_header-a-requires : goal.put_header-a-requires
-put_header-a-requires c =
-    let a = c.args in
-    header_fits (M.unsupported_version a.version) a.out.now c.requires
 
 pub returns : goal.returns
 returns c =

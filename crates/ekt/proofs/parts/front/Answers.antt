@@ -1,8 +1,0 @@
-use mathlib.Core.Path.{ap, ◌∙◌}
-use Rattle.octets.proofs.LentLaws.{same_bounds}
-use Rattle.ekt.specs.Parts as Spec
-use Rattle.ekt.proofs.parts.front.Goals as goal
-
-pub returns : goal.returns
-returns c =
-    same_bounds c.part_in.ensures (c.front_bounds.ensures ∙ ap Spec.front_bounds c.split.ensures)
