@@ -8,14 +8,14 @@ use octets::Refusal;
 // The top bit, which no other answer has.
 const REFUSED: u32 = 0x8000_0000;
 
-pub fn refused(refusal: Refusal) -> u32
+pub(crate) fn refused(refusal: Refusal) -> u32
     ensures { result ≡ Spec.refusal (number_of refusal) }
 {
     REFUSED + u32::from(u8::from(refusal))
 }
 
 // Asks for an answer of 32 bits, as each of the calls below gives: see there.
-pub fn count_or_refused(answer: Result<usize, Refusal>) -> u32
+pub(crate) fn count_or_refused(answer: Result<usize, Refusal>) -> u32
     requires { Spec.count_or_refused answer < 2 ^ 32 }
     ensures { result ≡ Spec.count_or_refused answer }
 {
