@@ -16,6 +16,7 @@ use Rattle.message.specs.Frame as Frame
 use Rattle.message.specs.Read as Read
 use Rattle.message.specs.declared.framing.Kind.{Kind}
 use Rattle.message.specs.declared.bodies.Fields.{Fields}
+use Rattle.message.specs.declared.reading.Refused.{Refused}
 use Rattle.message.specs.declared.bodies.Fields.TheVariants.{MediaKeys, TunneledDtls, EndpointDisconnect}
 use Rattle.message.proofs.TunneledLaws.{tunneled_told, tunneled_frame, tunneled_content}
 use Rattle.rules.specs.Index.{without_entry}
@@ -26,7 +27,7 @@ use Rattle.rules.specs.Refusals.{received, receiving}
 use Rattle.rules.specs.Table.{place_of_identifier, fields_answer, fields_next, read_next, octets_answer, octets_next}
 use Rattle.rows.specs.ReadKeys.{keys_read}
 use Rattle.rows.specs.declared.writing.ReadKeys.{ReadKeys}
-use Rattle.distributor.specs.Outcomes.{Found, Takes, Reads, whole_of, keys_place, keys_verdict}
+use Rattle.distributor.specs.Outcomes.{Found, Takes, Reads, keys_place, keys_verdict}
 use Rattle.distributor.specs.declared.receiving.Received.{Received}
 
 -- ---- refusal 4 is the only one that is not the reading's
@@ -50,7 +51,7 @@ tunneled s n e =
 -- ---- an answer with the block afterwards
 
 module _ (s octets : List ℕ) {next : List ℕ} where
-  pub of_fields : (taken : ℕ) (r : Result Received Refusal) {f g : Fields} → f ≡ g → Takes s octets g taken next r → Takes s octets f taken next r
+  pub of_fields : (taken : ℕ) (r : Result Received Refused) {f g : Fields} → f ≡ g → Takes s octets g taken next r → Takes s octets f taken next r
   of_fields taken r e h = subst (λ (x : Fields). Takes s octets x taken next r) (sym e) h
 
   pub of_reading : {a : Answer} {r q : Read.Answer} → r ≡ q → Reads s octets r next a → Reads s octets q next a
@@ -90,10 +91,9 @@ body_other Kind.EndpointDisconnect body n h = ended _ _ n h
 body_other Kind.Unlisted body n h = λ e. let k : n ≡ 3 = cc in omega arith
 
 module _ (s octets : List ℕ) where
-  pub body_refused : (kind : Kind) (body : List ℕ) (taken : ℕ) (x : Result Received Refusal) (r : Refusal) → x ≡ Err r → Body.refused (number_of r) ≡ Body.content kind body
-      → Reads s octets (Read.body_answer taken (Body.content kind body)) s (whole_of taken x)
-  body_refused kind body taken x r t h =
-      of_reading s octets (ap (Read.body_answer taken) h) (ap (whole_of taken) t, read_stays s octets (number_of r) taken (body_other kind body (number_of r) h))
+  pub body_refused : (kind : Kind) (body : List ℕ) (taken : ℕ) (r : Refusal) → Body.refused (number_of r) ≡ Body.content kind body
+      → Reads s octets (Read.body_answer taken (Body.content kind body)) s (refused (number_of r) taken)
+  body_refused kind body taken r h = of_reading s octets (ap (Read.body_answer taken) h) (refl, read_stays s octets (number_of r) taken (body_other kind body (number_of r) h))
 
 -- ---- by the place of the identifier
 
@@ -102,19 +102,19 @@ module _ (s octets i : List ℕ) (taken : ℕ) (e : i ≡ part_in octets identif
   named r f = subst (λ (x : List ℕ). Found (place_of_identifier s x) r) e f
 
   pub delivered : (n endpoint place : ℕ) → Found (place_of_identifier s i) (Ok place) → endpoint ≡ endpoint_of (row_of s place)
-      → Takes s octets (TunneledDtls n) taken s (Ok (Received.Delivery endpoint (dtls_bounds n) taken))
+      → Takes s octets (TunneledDtls n) taken s (Ok (Received.Delivery (dtls_bounds n) taken endpoint))
   unfolding fields_answer fields_next
   delivered n endpoint place f g =
       let h = named (Ok place) f in
       (rw h.0 (ap (λ (x : ℕ). delivery x (dtls_bounds n) taken) (g ∙ ap (λ (x : ℕ). endpoint_of (row_of s x)) h.1)), refl)
 
-  pub not_delivered : (n : ℕ) (x : Result Received Refusal) (r : Refusal) → x ≡ Err r → Found (place_of_identifier s i) (Err r) → Takes s octets (TunneledDtls n) taken s x
+  pub not_delivered : (n : ℕ) (r : Refusal) → Found (place_of_identifier s i) (Err r) → Takes s octets (TunneledDtls n) taken s (Err (record { refusal = r; taken = taken }))
   unfolding fields_answer fields_next
-  not_delivered n x r t f = let h = named (Err r) f in (ap (whole_of taken) t ∙ rw (h.0, h.1) refl, refl)
+  not_delivered n r f = let h = named (Err r) f in (rw (h.0, h.1) refl, refl)
 
   pub disconnected : (endpoint place : ℕ) → Found (place_of_identifier s i) (Ok place) → endpoint ≡ endpoint_of (row_of s place)
       → {next : List ℕ} → next ≡ without_entry (with_row s place vacant_row) (endpoint_of (row_of s place))
-      → Takes s octets EndpointDisconnect taken next (Ok (Received.Disconnected endpoint taken))
+      → Takes s octets EndpointDisconnect taken next (Ok (Received.Disconnected taken endpoint))
   unfolding fields_answer fields_next
   disconnected endpoint place f g n =
       let h = named (Ok place) f in (
@@ -122,9 +122,9 @@ module _ (s octets i : List ℕ) (taken : ℕ) (e : i ≡ part_in octets identif
         rw h.0 (n ∙ ap (λ (x : ℕ). without_entry (with_row s x vacant_row) (endpoint_of (row_of s x))) h.1),
       )
 
-  pub not_disconnected : (x : Result Received Refusal) (r : Refusal) → x ≡ Err r → Found (place_of_identifier s i) (Err r) → Takes s octets EndpointDisconnect taken s x
+  pub not_disconnected : (r : Refusal) → Found (place_of_identifier s i) (Err r) → Takes s octets EndpointDisconnect taken s (Err (record { refusal = r; taken = taken }))
   unfolding fields_answer fields_next
-  not_disconnected x r t f = let h = named (Err r) f in (ap (whole_of taken) t ∙ rw (h.0, h.1) refl, rw h.0 refl)
+  not_disconnected r f = let h = named (Err r) f in (rw (h.0, h.1) refl, rw h.0 refl)
 
 -- ---- keys, by their verdict
 
@@ -132,11 +132,11 @@ module _ (s : List ℕ) (taken : ℕ) (k : ReadKeys) where
   pub keyed : (place : ℕ) → (allowed ≡ keys_verdict s k) × (place ≡ keys_place s k)
       → (endpoint : ℕ) → endpoint ≡ endpoint_of (row_of s place)
       → {next : List ℕ} → next ≡ with_row s place (keyed_row (keys_read k) (row_of s place))
-      → Takes s k.octets.now (MediaKeys k.profile k.lengths) taken next (Ok (Received.KeysStored endpoint taken))
+      → Takes s k.octets.now (MediaKeys k.profile k.lengths) taken next (Ok (Received.KeysStored taken endpoint))
   unfolding fields_answer fields_next
   keyed place v endpoint n e =
       rw (← v.0) (ap (λ (x : ℕ). keys_stored x taken) (n ∙ ap (λ (x : ℕ). endpoint_of (row_of s x)) v.1), e ∙ ap (λ (x : ℕ). with_row s x (keyed_row (keys_read k) (row_of s x))) v.1)
 
-  pub not_keyed : (x : Result Received Refusal) (r : Refusal) → x ≡ Err r → refusal (number_of r) ≡ keys_verdict s k → Takes s k.octets.now (MediaKeys k.profile k.lengths) taken s x
+  pub not_keyed : (r : Refusal) → refusal (number_of r) ≡ keys_verdict s k → Takes s k.octets.now (MediaKeys k.profile k.lengths) taken s (Err (record { refusal = r; taken = taken }))
   unfolding fields_answer fields_next
-  not_keyed x r t v = (ap (whole_of taken) t ∙ rw (← v) refl, rw (← v) refl)
+  not_keyed r v = (rw (← v) refl, rw (← v) refl)

@@ -69,26 +69,21 @@ Pages a before after (Err r) = (a ≡ refused (number_of r) 0) × (after ≡ bef
 
 abbrev pub accepted_of : Received → Answer
 accepted_of Received.MoreNeeded = more_needed
-accepted_of (Received.KeysStored endpoint taken) = keys_stored endpoint taken
-accepted_of (Received.Delivery endpoint dtls taken) = delivery endpoint dtls taken
-accepted_of (Received.Disconnected endpoint taken) = removed endpoint taken
+accepted_of (Received.KeysStored taken endpoint) = keys_stored endpoint taken
+accepted_of (Received.Delivery dtls taken endpoint) = delivery endpoint dtls taken
+accepted_of (Received.Disconnected taken endpoint) = removed endpoint taken
 accepted_of (Received.Version number taken) = version number taken
 
 abbrev pub received_of : Result Received Refused → Answer
 received_of (Ok r) = accepted_of r
 received_of (Err r) = refused (number_of r.refusal) r.taken
 
--- of a whole message, which is taken where it is refused too
-abbrev pub whole_of : (taken : ℕ) → Result Received Refusal → Answer
-whole_of taken (Ok r) = accepted_of r
-whole_of taken (Err r) = refused (number_of r) taken
-
 -- the answer to what was read, and the block afterwards
 abbrev pub Reads : (before octets : List ℕ) → Read.Answer → (after : List ℕ) → Answer → Type 0
 Reads before octets r after a = (a ≡ read_answer before octets r) × (after ≡ read_next before octets r)
 
-abbrev pub Takes : (before octets : List ℕ) → Fields → (taken : ℕ) → (after : List ℕ) → Result Received Refusal → Type 0
-Takes before octets f taken after r = (whole_of taken r ≡ fields_answer before octets f taken) × (after ≡ fields_next before octets f)
+abbrev pub Takes : (before octets : List ℕ) → Fields → (taken : ℕ) → (after : List ℕ) → Result Received Refused → Type 0
+Takes before octets f taken after r = (received_of r ≡ fields_answer before octets f taken) × (after ≡ fields_next before octets f)
 
 -- by the identifier that stands in front of the keys
 

@@ -1,6 +1,6 @@
 // How octets and answers are written in a line.
 ghost use Rattle.std.specs.Prelude.{Some};
-ghost use Rattle.lines.specs.Print.{yes_or_no};
+ghost use Rattle.lines.specs.Print.{number16, yes_or_no};
 
 use std::fmt;
 
@@ -42,8 +42,11 @@ impl fmt::Display for Part<'_> {
 pub struct Number16(pub u16);
 
 impl fmt::Display for Number16 {
+    ghost output = { λ number. Some (number16 number) };
+
+    #[tactic(auto, using(std::proofs::lemmas::Fmt::hex_byte))]
     fn fmt<W: fmt::Write>(&self, f: &mut fmt::Formatter<W>) -> fmt::Result {
-        write!(f, "{:04X}", self.0)
+        write!(f, "{:02X}{:02X}", self.0 / 256, self.0 % 256)
     }
 }
 

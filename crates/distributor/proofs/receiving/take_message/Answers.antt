@@ -10,7 +10,7 @@ pub returns-in-SupportedProfiles : goal.returns-in-SupportedProfiles
 unfolding Spec.fields_answer Spec.fields_next
 returns-in-SupportedProfiles c =
     let a = c.args in
-    of_fields a.state.now a.s.now a.message.taken (Err Refusal.WrongDirection) c.in-SupportedProfiles.is (refl, refl)
+    of_fields a.state.now a.s.now a.message.taken (Err (record { refusal = Refusal.WrongDirection; taken = a.message.taken })) c.in-SupportedProfiles.is (refl, refl)
 
 pub returns-in-UnsupportedVersion : goal.returns-in-UnsupportedVersion
 unfolding Spec.fields_answer Spec.fields_next

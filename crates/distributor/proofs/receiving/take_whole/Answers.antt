@@ -1,4 +1,4 @@
-use mathlib.Core.Path.{◌≡◌, refl, sym, ap, ◌∙◌}
+use mathlib.Core.Path.{◌≡◌, refl, sym, ap}
 use borrow.Author.Rules.{rules}
 use denote.Enum.Bare.{same_true, same_false}
 use Rattle.message.specs.Frame.{whole}
@@ -17,5 +17,4 @@ returns-then-eq c =
 pub returns : goal.returns
 returns c =
     let a = c.args in
-    let b = c.take_body.ensures in
-    of_reading a.state.now a.s.now (sym (received_read a.s.now a.kind a.body_length (same_false the_type _ _ (sym c.if-eq.ensures)))) (c.taken_whole.ensures ∙ b.0, b.1)
+    of_reading a.state.now a.s.now (sym (received_read a.s.now a.kind a.body_length (same_false the_type _ _ (sym c.if-eq.ensures)))) c.take_body.ensures

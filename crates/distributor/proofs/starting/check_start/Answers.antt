@@ -1,22 +1,14 @@
 use mathlib.Core.Path.{refl, sym, ap, ◌∙◌}
 use borrow.Author.Tests.{lt-ltb, le-ltb}
 use mathlib.Core.Bool.{not}
-use Rattle.rules.specs.Table as Spec
 use Rattle.distributor.proofs.Sendable.{start_length}
 use Rattle.distributor.proofs.starting.check_start.Goals as goal
 
-pub returns-then-is_up : goal.returns-then-is_up
-unfolding Spec.start_verdict
-returns-then-is_up c = rw (sym c.is_up.ensures ∙ c.if-is_up.true) refl
-
 pub returns-then-not-good_list : goal.returns-then-not-good_list
-unfolding Spec.start_verdict
-returns-then-not-good_list c = rw (sym c.is_up.ensures ∙ c.if-is_up.false, ap not (sym c.good_list.ensures ∙ c.if-not-good_list.true)) refl
+returns-then-not-good_list c = rw (ap not (sym c.good_list.ensures ∙ c.if-not-good_list.true)) refl
 
 pub returns-then-room-list : goal.returns-then-room-list
-unfolding Spec.start_verdict
-returns-then-room-list c = rw (sym c.is_up.ensures ∙ c.if-is_up.false, ap not (sym c.good_list.ensures ∙ c.if-not-good_list.false), start_length c.args.list.now, lt-ltb _ _ c.if-room-list.true) refl
+returns-then-room-list c = rw (ap not (sym c.good_list.ensures ∙ c.if-not-good_list.false), start_length c.args.list.now, lt-ltb _ _ c.if-room-list.true) refl
 
 pub returns : goal.returns
-unfolding Spec.start_verdict
-returns c = rw (sym c.is_up.ensures ∙ c.if-is_up.false, ap not (sym c.good_list.ensures ∙ c.if-not-good_list.false), start_length c.args.list.now, le-ltb _ _ c.if-room-list.false) (refl, refl)
+returns c = rw (ap not (sym c.good_list.ensures ∙ c.if-not-good_list.false), start_length c.args.list.now, le-ltb _ _ c.if-room-list.false) (refl, refl)
