@@ -1,12 +1,12 @@
 -- MediaKeys by one test: its walk goes past every field exactly where none is too short and the last one ends the body.
-use Prim.Native.Nat.{ℕ, ◌+◌}
+use Prim.Native.Nat.{ℕ, ◌+◌, ◌<◌}
 use mathlib.Core.Path.{◌≡◌, refl, sym, ◌∙◌}
 use mathlib.Core.Bool.{Bool, true, false, cond, ◌&&◌}
 use mathlib.Core.List.{List}
 use native.Mathlib.Omega.{arith}
 use lib.ListN.{length}
 use lib.Dec.{leb, eqb}
-use borrow.Author.Tests.{le-leb, leb-true, eq-eqb, eqb-true}
+use borrow.Author.Tests.{le-leb, leb-true, eq-eqb, ne_eqb, eqb-true}
 use Rattle.octets.specs.Number.{octet_at, number16_at}
 use Rattle.octets.proofs.Tests.{by_choice, both, false_true}
 use Rattle.message.specs.Limits.{width}
@@ -109,3 +109,11 @@ module _ (body : List ℕ) where
           let p = both some (eqb end (length body)) h in
           goes p.0 (eqb-true _ _ p.1)
       go false h = stops h
+
+  -- where the last field would end behind the body: so where any length octet stands behind it
+  pub beyond : length body < end → media_keys body ≡ refused 5
+  beyond h = stops (rw (ne_eqb end (length body) (λ e. omega (arith, e))) (both_false some))
+    where
+      both_false : (b : Bool) → (b && false) ≡ false
+      both_false true = refl
+      both_false false = refl

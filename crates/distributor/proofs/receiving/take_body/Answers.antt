@@ -7,9 +7,9 @@ use Rattle.distributor.proofs.receiving.take_body.Goals as goal
 pub returns-in-Ok : goal.returns-in-Ok
 returns-in-Ok c =
     let a = c.args in
-    of_reading a.state.now a.s.now (ap (body_answer a.taken) (c.in-Ok.ensures ∙ ap (content a.kind) c.part.ensures.octets)) c.take_message.ensures
+    of_reading a.state.now a.s.now (ap (body_answer a.taken) (c.in-Ok.ensures ∙ ap (content a.kind) c.requires)) c.take_message.ensures
 
 pub returns-in-Err : goal.returns-in-Err
 returns-in-Err c =
     let a = c.args in
-    body_refused a.state.now a.s.now a.kind _ a.taken _ (c.in-Err.ensures ∙ ap (content a.kind) c.part.ensures.octets)
+    body_refused a.state.now a.s.now a.kind _ a.taken _ (c.in-Err.ensures ∙ ap (content a.kind) c.requires)
